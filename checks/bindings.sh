@@ -13,6 +13,7 @@
 #     device OWNER, execute HEX, power                    a script, by its nonces, of a new device
 #     start, seal, open, give-up                          what a new caller does beside it: checks/callers.txt
 #     zeros SIZE HEX                                      as command and as log: HEX, and zeros up to this size
+#     code HEX                                            the name of a response code, as `tpmtool explain` has it
 
 . "$(dirname "$0")/shared.sh"
 . checks/tables.sh
@@ -158,6 +159,9 @@ ROWS
     sed -n '/^#/d; s/.* -> //p' checks/callers.txt >>"$table.wanted"
     echo "zeros 4294967308 80010000000c000001440000" >>"$table"
     printf '%s\n' 'refused 142 at 2' 'log NotCryptoAgile at 0' >>"$table.wanted"
+    named_codes >"$room/codes"
+    { cut -f 1 "$room/codes" && echo 1084; } | sed 's/^/code /' >>"$table"
+    { cut -f 2 "$room/codes" && echo 0x1084; } >>"$table.wanted"
     ! [ -d checks/quotes ] || ask_quotes
 }
 
@@ -202,7 +206,8 @@ make_layout() {
         function number(name, value) { printf "printf(\"%s %%lu\\n\", (unsigned long)%s);\n", name, value }
         BEGIN { print "#include \"vinjakwe.h\"\n#include <stdio.h>\nint main(void) {" }
         /^struct tpm_[a-z_]* \{/ &&
-            ($2 ~ /refusal|part|session|areas|attest|policy|counter|secure_boot|variable|log_(place|digest|event)/) {
+            ($2 ~ /refusal|part|session|areas|attest|signature|policy|counter|secure_boot|variable/ ||
+                $2 ~ /log_(place|digest|event)/) {
             name = $2
             size(name)
             next
@@ -217,17 +222,24 @@ make_layout() {
             $2 !~ /^TPM_RC_([HPS1-7])$/ { number($2, $2) }
         /^#define TPM_(DONE|REFUSED|NO_ROOM|NO_COMMAND|EVENT|VARIABLE|TEXT|TEXT_UTF16|CALLER_OPENED) / ||
             /^#define TPM_POLICY_NO_DIGEST / ||
-            /^#define TPM_(FRAMER_[A-Z]+|ATTEST_[A-Z_]+) / || /^#define TPM_ALG_SHA/ ||
-            /^#define TPM_(BUFFER|OWNER|NONCE|REGISTERS|DEVICE_KEPT|EVENT_TYPE)_BYTES/ { number($2, $2) }
-        /^#define TPM_SECURE_BOOT_/ && $2 !~ /NO_BANK$/ { number($2, $2) }
-        /^#define TPM_LOG_/ { sub(/^TPM_LOG_/, "", $2); gsub(/_/, "", $2); number("TPM_LOG_" $2, $3) }
+            /^#define TPM_(FRAMER_[A-Z]+|ATTEST_[A-Z_]+|MEASURED_[A-Z]+) / ||
+            /^#define TPM_ALG_(SHA|RSA|ECDSA)/ ||
+            /^#define TPM_(BUFFER|OWNER|NONCE|REGISTERS|DEVICE_KEPT|SELECTION)_BYTES/ ||
+            /^#define TPM_(EVENT_TYPE|CODE_NAME|LOG_NAME)_BYTES/ { number($2, $2) }
+        /^#define TPM_SECURE_BOOT_(ON|OFF|UNSET|NO_ROOM|NOT_MEASURED) / { number($2, $2) }
+        /^#define TPM_LOG_/ && $2 !~ /_BYTES$/ {
+            sub(/^TPM_LOG_/, "", $2)
+            gsub(/_/, "", $2)
+            number("TPM_LOG_" $2, $3)
+        }
         END { print "return 0; }" }' include/vinjakwe.h >"$room/layout.c"
     "$compiler" -Iinclude -o "$room/c_layout" "$room/layout.c" && "$room/c_layout" | sort >"$room/layout"
 }
 
-# python_layout: the same of the package.
+# python_layout: the same of the package, but for the kinds of a log's faults, which it knows by their names alone.
 python_layout() {
-    in_place python3 - >"$room/out.unsorted" <<'END' && sort "$room/out.unsorted" | diff "$room/layout" -
+    grep -v '^TPM_LOG_[A-Z]* ' "$room/layout" >"$room/layout.python"
+    in_place python3 - >"$room/out.unsorted" <<'END' && sort "$room/out.unsorted" | diff "$room/layout.python" -
 import ctypes
 import vinjakwe as v
 
@@ -235,32 +247,32 @@ for it, name in (
     (v._Refusal, "refusal"), (v._Part, "part"), (v._CommandSession, "command_session"),
     (v._CommandAreas, "command_areas"), (v._ResponseSession, "response_session"), (v._ResponseAreas, "response_areas"),
     (v._LogPlace, "log_place"), (v._LogDigest, "log_digest"), (v._LogEvent, "log_event"), (v._Attest, "attest"),
+    (v._Signature, "signature"),
     (v._AttestFault, "attest_fault"), (v._Policy, "policy"), (v._Counter, "counter"), (v._SecureBoot, "secure_boot"),
     (v._Variable, "variable"),
 ):
     print(f"tpm_{name} {ctypes.sizeof(it)}")
     for field, _ in it._fields_:
         print(f"tpm_{name}.{field} {getattr(it, field).offset}")
-hashes = {name.upper(): number for name, number in v.HASHES.items()}
-for prefix, table in (("CC", v.COMMANDS), ("RC", v.CODES), ("ALG", hashes)):
+algorithms = {name.upper(): number for name, number in (v.HASHES | v.SCHEMES).items()}
+parts = {name.upper(): number for name, number in v.MEASURED.items()}
+for prefix, table in (("CC", v.COMMANDS), ("RC", v.CODES), ("ALG", algorithms), ("MEASURED", parts)):
     for name, number in table.items():
         print(f"TPM_{prefix}_{name} {number}")
-for i, name in enumerate(v.LOG_FAULTS):
-    print(f"TPM_LOG_{name.replace('_', '')} {i}")
 for name in ("BUFFER_BYTES", "OWNER_BYTES", "NONCE_BYTES", "REGISTERS_BYTES", "DEVICE_KEPT_BYTES",
-             "EVENT_TYPE_BYTES"):
+             "EVENT_TYPE_BYTES", "CODE_NAME_BYTES", "LOG_NAME_BYTES", "SELECTION_BYTES"):
     print(f"TPM_{name} {getattr(v, name)}")
 for name in ("DONE", "REFUSED", "NO_ROOM", "NO_COMMAND", "FRAMER_MORE", "FRAMER_READY", "FRAMER_BROKEN", "EVENT",
              "VARIABLE", "TEXT", "TEXT_UTF16", "CALLER_OPENED", "ATTEST_REFUSED", "ATTEST_NO_BANK",
              "ATTEST_REQUIREMENT", "POLICY_NO_DIGEST"):
     print(f"TPM_{name} {getattr(v, '_' + name)}")
 for kind in v.Kind:
-    print(f"TPM_ATTEST_{kind.name} {kind.value}")
+    if kind.value >= 0:
+        print(f"TPM_ATTEST_{kind.name} {kind.value}")
 for state in v.SecureBootState:
     print(f"TPM_SECURE_BOOT_{state.name} {state.value}")
 print(f"TPM_SECURE_BOOT_NO_ROOM {v._SECURE_BOOT_NO_ROOM}")
-for i, name in enumerate(v.SECURE_BOOT_FAULTS, v._SECURE_BOOT_NOT_MEASURED):
-    print(f"TPM_SECURE_BOOT_{name} {i}")
+print(f"TPM_SECURE_BOOT_NOT_MEASURED {v._SECURE_BOOT_NOT_MEASURED}")
 END
 }
 
@@ -361,7 +373,9 @@ python_program() {
     while read -r quote log hash nonce selected; do
         for log in "checks/quotes/$log" checks/logs/worked.log checks/logs/cut_by_a_byte.log; do
             for words in "" "--nonce $nonce" "--nonce ${nonce}00 --hash $hash" "--nonce no" "--nonce $nonce --require $selected --hash $hash" \
-                "--require sha256:007,0+sha1:7" "--require sha384:9+$selected --nonce $nonce" "--require sha1:all --hash sha384"; do
+                "--require sha256:007,0+sha1:7" "--require sha384:9+$selected --nonce $nonce" "--require sha1:all --hash sha384" \
+                "--any-nonce --any-selection" "--nonce $nonce --any-selection" "--any-nonce --require $selected" \
+                "--any-nonce --nonce $nonce" "--any-selection --require $selected"; do
                 same_said check "$log" --attest "checks/quotes/$quote.msg" $words || return 1
             done
         done
@@ -377,7 +391,8 @@ python_program() {
 
 # go_built: the package is vetted, and the program that answers the table is built.
 go_built() {
-    (cd bindings/go && in_place go vet ./... && in_place go build -o "$room/go_table" ./table)
+    (cd bindings/go && in_place go vet ./... && in_place go build -o "$room/go_table" ./table &&
+        in_place go build -o "$room/go_verify" ./examples/verify)
 }
 
 # go_static, rust_static: the program holds the archive, and needs no shared library.
@@ -393,13 +408,6 @@ rust_static() {
         answers "$room/rust_static/debug/examples/table" $(numbers)
 }
 
-# go_names: the package has the name of each response code of the header.
-go_names() {
-    echo codes | in_place "$room/go_table" | sort >"$room/out"
-    awk '/^TPM_RC_/ { printf "%03x %s\n", $2, $1 }' "$room/layout" | sort | comm -23 - "$room/out" >"$room/lacking"
-    cat "$room/lacking" && ! [ -s "$room/lacking" ]
-}
-
 # rust_built: the crate is built without a warning, and so is the program that answers the table; its structures, made
 # of the header, lie as C lays them out, and its log faults are in the header's order.
 rust_built() {
@@ -407,7 +415,7 @@ rust_built() {
 }
 
 rust_layout() {
-    grep -e '^tpm_' -e '^TPM_LOG_' "$room/layout" >"$room/layout.rust"
+    grep -e '^tpm_' -e '^TPM_LOG_[A-Z]* ' "$room/layout" >"$room/layout.rust"
     in_place "$room/rust/release/examples/layout" | sort | diff "$room/layout.rust" -
 }
 
@@ -452,6 +460,91 @@ END
         [ "$(env -u LD_LIBRARY_PATH "$room/rust/debug/example" $one_quote)" = "$verdict" ]
 }
 
+# make_signed: quotes with their signatures as TPMT_SIGNATURE and what is said of them, in $room/signed: those of
+# checks/quotes, and one of a made log by a key for each scheme.
+make_signed() {
+    mkdir -p "$room/signed" && : >"$room/signed/cases" || return 1
+    while read -r quote log hash nonce selected; do
+        case $quote in rsa-*) scheme=rsassa ;; *) scheme=ecdsa ;; esac
+        signed_case "$quote" "checks/quotes/$log" "checks/quotes/$quote" $scheme "$hash" "$nonce" "$selected" ||
+            return 1
+    done <checks/quotes/cases.txt
+    nonce=00112233445566778899aabbccddeeff selected=sha256:4,7,8
+    python3 checks/quotes/made.py checks/logs/measured.registers $nonce $selected >"$room/signed/made.msg" || return 1
+    for scheme in rsassa rsapss ecdsa; do
+        made=$room/signed/made-$scheme
+        cp "$room/signed/made.msg" "$made.msg"
+        case $scheme in
+        ecdsa) openssl ecparam -name secp384r1 -genkey -noout -out "$made.key" ;;
+        *) openssl genrsa -out "$made.key" 3072 2>/dev/null ;;
+        esac || return 1
+        padding=
+        [ $scheme != rsapss ] || padding='-sigopt rsa_padding_mode:pss -sigopt rsa_pss_saltlen:digest'
+        # shellcheck disable=SC2086
+        openssl dgst -sha256 -sign "$made.key" $padding -out "$made.sig" "$made.msg" &&
+            openssl pkey -in "$made.key" -pubout -out "$made.pem" &&
+            signed_case "made-$scheme" checks/logs/measured.log "$made" $scheme sha256 $nonce $selected || return 1
+    done
+}
+
+# signed_case NAME LOG FILES SCHEME HASH NONCE SELECTED: a line of the cases.
+signed_case() {
+    python3 checks/quotes/verified.py --spell "$4" "$5" "$3.sig" >"$room/signed/$1.tpmt" &&
+        python3 checks/quotes/verified.py "$2" $(echo "$7" | tr + ' ') >"$room/signed/$1.said" &&
+        echo "$1 $2 $3 $6 $7" >>"$room/signed/cases"
+}
+
+# verifies WORD..: this program says of each quote what it vouches for, and believes nothing else: another key, another
+# nonce, another register, a byte of the quote or of the signature that is another.
+verifies() {
+    while read -r quote log files nonce selected; do
+        signature=$room/signed/$quote.tpmt
+        in_place "$@" "$log" "$files.msg" "$signature" "$files.pem" "$nonce" "$selected" >"$room/out" || return 1
+        grep -v '^Secure Boot' "$room/out" | cmp - "$room/signed/$quote.said" || return 1
+        [ "$(grep -c '^Secure Boot' "$room/out")" -eq "$(grep -c '^bank' "$room/out")" ] || return 1
+        for at in 20 60; do
+            cp "$files.msg" "$room/changed.msg" && change_byte "$room/changed.msg" $at
+            believes_nothing "$@" "$log" "$room/changed.msg" "$signature" "$files.pem" "$nonce" "$selected" || return 1
+        done
+        cp "$signature" "$room/changed.tpmt" && change_byte "$room/changed.tpmt" 30
+        believes_nothing "$@" "$log" "$files.msg" "$room/changed.tpmt" "$files.pem" "$nonce" "$selected" &&
+            believes_nothing "$@" "$log" "$files.msg" "$signature" "$(other_key "$quote")" "$nonce" "$selected" &&
+            believes_nothing "$@" "$log" "$files.msg" "$signature" "$files.pem" "${nonce}00" "$selected" &&
+            believes_nothing "$@" "$log" "$files.msg" "$signature" "$files.pem" "$nonce" "$selected+sha384:9" ||
+            return 1
+        # No log extends the registers that this quote selects.
+        [ "$quote" = not-measured ] ||
+            believes_nothing "$@" checks/logs/worked.log "$files.msg" "$signature" "$files.pem" "$nonce" "$selected" ||
+            return 1
+    done <"$room/signed/cases"
+}
+
+# other_key NAME: the file of a key of the same kind by which the quote of this name isn't signed.
+other_key() {
+    case $1 in
+    made-ecdsa) echo checks/quotes/ecc-sha256.pem ;;
+    made-rsapss) echo "$room/signed/made-rsassa.pem" ;;
+    *rsa*) echo "$room/signed/made-rsapss.pem" ;;
+    *) echo "$room/signed/made-ecdsa.pem" ;;
+    esac
+}
+
+# verified_by WORD..: the same of each quote, where they are made.
+verified_by() {
+    [ -s "$room/signed/cases" ] || make_signed && verifies "$@"
+}
+
+# change_byte FILE AT: another byte there.
+change_byte() {
+    old=$(xxd -s "$2" -l 1 -p "$1")
+    printf "%02x" $((0x$old ^ 1)) | xxd -r -p | dd of="$1" bs=1 seek="$2" conv=notrunc 2>/dev/null
+}
+
+believes_nothing() {
+    ! in_place "$@" >"$room/out" 2>&1 && grep -q '^not to be believed' "$room/out" && ! grep -q '^bank' "$room/out" ||
+        { echo "$*: $(cat "$room/out")" && return 1; }
+}
+
 one_quote="$PWD/checks/quotes/17-ovmf-secureboot.log $PWD/checks/quotes/ecc-sha256.msg c0ffee0000000000000000000000000000000000"
 verdict='the machine booted as its log says'
 
@@ -485,6 +578,11 @@ else
         holds "Python refuses what has no bytes, and other libraries" python_faults
         holds "Python prints of quotes what tpmtool prints" python_program
         holds "the example in Python" python_example
+        if ! python3 -c 'import cryptography' 2>/dev/null || ! command -v openssl >/dev/null 2>&1; then
+            skip "a verifier in Python" "there is no cryptography for python3 or no openssl"
+        else
+            holds "a verifier in Python" verified_by python3 bindings/python/examples/verify.py
+        fi
         holds "the tests of the package for Python" python_tests
         if command -v mypy >/dev/null 2>&1; then
             holds "Python's types" python_typed
@@ -502,7 +600,6 @@ else
     elif ! go_built >"$room/said" 2>&1; then
         fail "the binding for Go" "$(head -n 5 "$room/said")"
     else
-        holds "Go has the names of the header's codes" go_names
         holds "Go answers the table" answers "$room/go_table"
         holds "Go answers the table while its collector works, which clears what it frees" answers env \
             GODEBUG=cgocheck=1,clobberfree=1 GOGC=1 "$room/go_table"
@@ -514,6 +611,11 @@ else
         fi
         holds "Go answers the table by the archive" go_static
         holds "the example in Go" go_example
+        if ! command -v python3 >/dev/null 2>&1 || ! command -v openssl >/dev/null 2>&1; then
+            skip "a verifier in Go" "there is no python3 or no openssl"
+        else
+            holds "a verifier in Go" verified_by "$room/go_verify"
+        fi
         holds "the tests of the package for Go" go_tests
     fi
     if ! command -v cargo >/dev/null 2>&1; then

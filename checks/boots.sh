@@ -259,6 +259,7 @@ told() {
         "$program" check "$here/log" --secure-boot >"$here/secure"
         case $1 in
         secure*) grep -q -w on "$here/secure" ;;
+        seabios*) grep -q -w NoSecureBoot "$here/secure" ;;
         *) grep -q -w -e off -e unset "$here/secure" && ! grep -q -w on "$here/secure" ;;
         esac || { cat "$here/secure" && return 1; }
     fi

@@ -220,6 +220,72 @@ same_texts() {
     done
 }
 
+# same_measured: which part of the data the digest of each bank is of, of each log that has a list of objects.
+same_measured() {
+    for list in checks/logs/*.json; do
+        sed -n 's/.*"measured":{\([^}]*\)}.*/\1/p' "$list" | tr -d '"' | tr ',' ' ' >"$room/out.wanted"
+        "$room/events" measured <"${list%.json}.log" | awk '
+            BEGIN { split("0004: 000b: 000c:", hashes); split("sha1: sha256: sha384:", banks) }
+            {
+                line = ""
+                for (bank = 1; bank <= 3; bank++)
+                    for (i = 3; i <= NF; i++)
+                        if (sub("^" hashes[bank], banks[bank], $i)) line = line " " $i
+                print substr(line, 2)
+            }' >"$room/out"
+        cmp "$room/out" "$room/out.wanted" || { echo "$list: $(cat "$room/out")" && return 1; }
+    done
+}
+
+# same_codes: the names of the response codes of checks/explain.txt, and the numbers of those that have none.
+same_codes() {
+    named_codes >"$room/codes"
+    { cut -f 1 "$room/codes" && echo 1084; } | sed 's/^/code /' | "$room/view" >"$room/out" || return 1
+    { cut -f 2 "$room/codes" && echo 0x1084; } | cmp - "$room/out"
+}
+
+# same_vouched: what the quotes of checks/quotes vouch for: what was measured in the registers that they select.
+same_vouched() {
+    while read -r quote log hash sent wanted; do
+        "$room/events" measured <"checks/quotes/$log" | awk -v list="$wanted" '
+            BEGIN {
+                split("0004 000b 000c", hashes)
+                split("sha1 sha256 sha384", names)
+                for (i = 1; i <= 3; i++) bank[hashes[i]] = names[i]
+                count = split(list, entries, "+")
+                for (i = 1; i <= count; i++) {
+                    split(entries[i], halves, ":")
+                    many = split(halves[2], registers, ",")
+                    for (j = 1; j <= many; j++) selected[halves[1], registers[j]] = 1
+                }
+            }
+            {
+                line = $1
+                for (i = 3; i <= NF; i++) {
+                    split($i, it, ":")
+                    if ($2 != "00000003" && (bank[it[1]], $1) in selected)
+                        line = line " " bank[it[1]] ":" (it[2] == "other" ? "digest" : it[2])
+                }
+                print line
+            }' >"$room/out.wanted"
+        "$room/attest" --vouched "checks/quotes/$log" "checks/quotes/$quote.msg" >"$room/out" || return 1
+        cmp "$room/out" "$room/out.wanted" || return 1
+    done <checks/quotes/cases.txt
+}
+
+# same_signatures: a signature's parts, by an RSA key that of checks/quotes, and what is refused.
+same_signatures() {
+    { echo 001400040100 | as_bytes && cat checks/quotes/rsa-sha1.sig; } >"$room/signature"
+    printf 'scheme 0014\nhash sha1\nsig %s\n' "$(xxd -p checks/quotes/rsa-sha1.sig | tr -d '\n')" >"$room/out.wanted"
+    "$room/attest" --signature "$room/signature" >"$room/out" && cmp "$room/out" "$room/out.wanted" || return 1
+    echo 0018000b0002010200020304 | as_bytes >"$room/signature"
+    printf 'scheme 0018\nhash sha256\nr 0102\ns 0304\n' >"$room/out.wanted"
+    "$room/attest" --signature "$room/signature" >"$room/out" && cmp "$room/out" "$room/out.wanted" || return 1
+    echo 001a000b000101 | as_bytes >"$room/signature"
+    "$room/attest" --signature "$room/signature" >"$room/out"
+    [ $? -eq 1 ] && [ "$(cat "$room/out")" = 'refused 092 at 0' ]
+}
+
 # same_boots: what each log of checks/logs that has a list says of Secure Boot, without what the variables hold, in the
 # banks of its list; and a log that is none, a bank that there is not, and more authorities than the first room has.
 same_boots() {
@@ -585,6 +651,7 @@ else
     holds "commands and responses through C are shown as by tpmtool" same_cases checks/show.txt
     holds "commands joined through C are those of tpmtool" same_cases checks/build.txt
     holds "too small a room, and no command, through C" other_answers
+    holds "the names of response codes through C" same_codes
     holds "the logs through C give their registers and faults" same_logs
     holds "the logs through C as a whole" same_logs whole
     holds "the logs through C byte by byte" same_logs 1
@@ -593,12 +660,15 @@ else
     holds "the records of the logs through C" same_events
     holds "the variables of the logs through C" same_variables
     holds "the names of types and the texts of the logs through C" same_texts
+    holds "which part of the data was measured through C" same_measured
     holds "whether Secure Boot was on through C" same_boots
     holds "a device through C tells what it does not know" device_faults
     holds "the power of a device behind a stream" same_power
     holds "quotes beside a log through C" same_quotes
     holds "quotes as they were signed, beside their logs through C" same_attests
     holds "quotes that are changed at random through C" changed_quotes
+    holds "what quotes vouch for through C" same_vouched
+    holds "signatures by their parts through C" same_signatures
     holds "the digest of a policy through C" same_policies
     holds "a session is held through C" same_session
     holds "random commands are sealed and their replies opened through C as Part 1 has it" same_sealed

@@ -62,6 +62,13 @@ def array_len(crate, file, element):
     return int(re.search(rf"\[{element}; ([0-9]+)\]", source(crate, file)).group(1))
 
 
+def code_name_bytes():
+    """How many bytes a name of a response code has at most: TPM_RC_, the name, and what it is about."""
+    with_none, with_number = source("tpm_names", "codes").split("const WITH_NUMBER")
+    longest = [max(map(len, re.findall(r'0x[0-9a-f]+ "(\w+)"', it))) for it in (with_none, with_number)]
+    return len("TPM_RC_") + max(longest[0], longest[1] + len(" for parameter 15"))
+
+
 def crate_numbers():
     statuses = only(constants("tpm_c", "part", "TPM_"), "TPM_DONE", "TPM_REFUSED", "TPM_NO_ROOM", "TPM_NO_COMMAND")
     quotes = constants("tpm_c", "quote", "TPM_QUOTE_") | {"TPM_QUOTE_MATCHES": statuses["TPM_DONE"]}
@@ -72,7 +79,8 @@ def crate_numbers():
     faults_of_logs = arms("tpm_c", "log", "LogFaultKind", "TPM_LOG_") | {"TPM_LOG_DONE": statuses["TPM_DONE"]}
     # What a source of the library's says of itself: no slice of bytes has this fault.
     del faults_of_logs["TPM_LOG_DEVICE"]
-    digest = constants("tpm_types", "limits")["DIGEST_BYTES"]
+    limits = constants("tpm_types", "limits")
+    digest = limits["DIGEST_BYTES"]
     nonce = int(re.search(r"nonce: &\[u8; ([0-9]+)\]", source("tpm_c", "device")).group(1))
     return (
         statuses
@@ -87,21 +95,27 @@ def crate_numbers():
         | only(constants("tpm_c", "log_event", "TPM_"), "TPM_EVENT")
         | only(constants("tpm_c", "record_text", "TPM_"), "TPM_TEXT", "TPM_TEXT_UTF16")
         | only(constants("tpm_c", "variable", "TPM_"), "TPM_VARIABLE")
+        | arms("tpm_c", "measured", "MeasuredPart", "TPM_MEASURED_")
+        | constants("tpm_c", "signature", "TPM_ALG_", "u16")
         | arms("tpm_c", "secure_boot", "SecureBootState", "TPM_SECURE_BOOT_")
         | arms("tpm_c", "secure_boot", "SecureBootFaultKind", "TPM_SECURE_BOOT_")
         | constants("tpm_c", "secure_boot", "TPM_SECURE_BOOT_")
         | {"TPM_SECURE_BOOT_NO_BANK": quotes["TPM_QUOTE_NO_BANK"]}
-        | only(constants("tpm_c", "out", "TPM_"), "TPM_BUFFER_BYTES")
+        | only(constants("tpm_c", "handed", "TPM_"), "TPM_BUFFER_BYTES")
         | only(constants("tpm_c", "log", "TPM_"), "TPM_REGISTERS_BYTES")
         | only(constants("tpm_c", "kept", "TPM_"), "TPM_NO_COUNTER")
         | {
             "TPM_DEVICE_KEPT_BYTES": constants("tpm_nv", "kept")["KEPT_BYTES"],
             "TPM_OWNER_BYTES": digest,
             "TPM_NONCE_BYTES": nonce,
+            "TPM_CODE_NAME_BYTES": code_name_bytes(),
+            "TPM_LOG_NAME_BYTES": max(map(len, re.findall(r'[0-9]+ "(\w+)"', source("tpm_c", "answer_name")))),
+            # a count, and of each bank its hash, a size and the bits of its registers
+            "TPM_SELECTION_BYTES": 4 + limits["BANKS"] * (2 + 1 + constants("tpm_types", "tpms")["SELECT_BYTES"]),
             "TPM_POLICY_BYTES": array_len("tpm_c", "policy", "u8"),
             "TPM_RECORD_DIGESTS": array_len("tpm_c", "log_event", "TpmLogDigest"),
             "TPM_EVENT_TYPE_BYTES": max(
-                map(len, re.findall(r'"(EV_\w+)"\),', source("tpm_event_data", "event_types")))
+                map(len, re.findall(r'0x[0-9a-f_]+, "(EV_\w+)"', source("tpm_event_data", "event_types")))
             ),
         }
         | arms("tpm_types", "alg", "Alg", "TPM_ALG_")

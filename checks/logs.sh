@@ -164,14 +164,29 @@ if python3 -c pass >"$room/out" 2>&1; then
         of="the quote $quote as an object" log=checks/quotes/$log words="--hash $hash"
         sent="--nonce $nonce" list="--require $list"
         quoted "$of" 0 "$quote" "$log" matches covers matches $words $sent $list
-        quoted "$of, without a nonce" 0 "$quote" "$log" "not compared" covers matches $words $list
-        quoted "$of, of which nothing is wanted" 0 "$quote" "$log" matches "not compared" matches $words $sent
+        quoted "$of, by the hash of its length" 0 "$quote" "$log" matches covers matches $sent $list
+        quoted "$of, without a nonce" 1 "$quote" "$log" "not compared" covers matches $words $list
+        quoted "$of, of any nonce" 0 "$quote" "$log" any covers matches $words $list --any-nonce
+        quoted "$of, of which no register is required" 1 "$quote" "$log" matches "not compared" matches $words $sent
+        quoted "$of, of any selection" 0 "$quote" "$log" matches any matches $words $sent --any-selection
         quoted "$of, for another nonce" 1 "$quote" "$log" differs covers matches $words ${sent}00 $list
         quoted "$of, that lacks a register" 1 "$quote" "$log" matches "lacks sha384 9" matches $words $sent \
             --require sha384:9
         [ "$quote" = not-measured ] ||
             quoted "$of, of another log" 1 "$quote" "$logs/worked.log" matches covers differs $words $sent $list
     done <checks/quotes/cases.txt
+
+    # Bytes that are no quote: with a size before it, and a signature by each scheme.
+    printf '%s\n' 'refused 084 at 0' 'a size stands before it' >"$room/out.wanted"
+    { printf '\0\205' && cat checks/quotes/not-measured.msg; } >"$room/quote"
+    checked "a size before a quote" 1 "$logs/worked.log" --attest "$room/quote"
+    printf '%s\n' '{"refused":"084","at":0,"hint":"a size stands before it"}' '{"ok":false}' >"$room/out.wanted"
+    told "a size before a quote, as an object" 1 "$logs/worked.log" --attest "$room/quote"
+    printf '%s\n' 'refused 084 at 0' 'it is a signature' >"$room/out.wanted"
+    for scheme in 24 26 30; do
+        { printf "\\0\\$scheme\\0\\13" && cat checks/quotes/rsa-sha1.sig; } >"$room/quote"
+        checked "a signature in place of a quote, of the scheme $scheme" 1 "$logs/worked.log" --attest "$room/quote"
+    done
 
     # Secure Boot by a log that a quote vouches for, in the banks whose register 7 it selects.
     while read -r log list; do

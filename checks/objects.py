@@ -76,6 +76,9 @@ TAGS = {0x00C4: "TPM_ST_RSP_COMMAND", 0x8000: "TPM_ST_NULL", 0x8001: "TPM_ST_NO_
 # Part 2: the types of one size, and the sizes of digests.
 SIZES = {"UINT16": 2, "UINT32": 4, "TPM_SU": 2, "TPM_SE": 1, "TPM_CC": 4, "TPMI_DH_CONTEXT": 4, "TPMI_ALG_HASH": 2}
 DIGESTS = {0x0004: 20, 0x000B: 32, 0x000C: 48}
+# Part 2, 6.3: the hashes that are no banks here. Part 3: where TPM_RC_SIZE is of the count of a list of banks.
+OTHER_HASHES = {0x000D, 0x0012, 0x0027, 0x0028, 0x0029}
+LISTS = {(">", 0x182, 0x1D5), (">", 0x17E, 0x1D5), (">", 0x17F, 0x2D5), ("<", 0x13C, 0x1D5), ("<", 0x17E, 0x2D5)}
 # What has numbers for its parts: the registers of a selection's octets, and of an index's attributes the field TPM_NT
 # and each bit set.
 NUMBERS = {
@@ -368,6 +371,16 @@ def behind(mark, awaited, data):
         return {}
 
 
+def is_larger(way, code, at, data):
+    """Whether a profile of more commands or banks would not have this fault, in a command or a reply by its mark and
+    the command's code."""
+    if way[0] == ">" and (code, at) == (0x143, 6):
+        return True
+    if code & 0xFF == 0xC3:
+        return int.from_bytes(data[at:at + 2], "big") in OTHER_HASHES
+    return (*way, code) in LISTS and 4 <= int.from_bytes(data[at:at + 4], "big") <= 8
+
+
 def size_of(kind, data):
     """How many bytes a value of this type has at the front of these, or None where the type isn't known here."""
     if kind in SIZES:
@@ -504,11 +517,13 @@ class Teller:
             self.counts("fault")
             return same(found, dict(head, fault=awaited if awaited == NOTHING else UNKNOWN))
         elif awaited not in PROFILE:
-            self.counts("refused")
-            return same(found, {**head, **(behind(mark, awaited, data) if code == 0 else {})})
-        if "refused" in found:
-            self.counts("refused")
-            return self.refused(found, head, behind(mark, awaited, data) if mark == ">" else {}, len(data))
+            members = behind(mark, awaited, data) if code == 0 else {}
+            alone = code and len(data) == 10 and data[2:6] == bytes([0, 0, 0, 10])
+            self.counts("other" if members or alone else "refused")
+            return same(found, {**head, **members})
+        if "refused" in found or "beyond" in found:
+            members = behind(mark, awaited, data) if mark == ">" or code == 0 else {}
+            return self.refused(found, head, members, (mark, code if mark == ">" else awaited), data)
         if mark == "<" and code:
             self.counts("code")
             return same(found, head)
@@ -520,14 +535,15 @@ class Teller:
             check_fields(members["fields"], bytes.fromhex(members["parameters"]))
         return same(found, {**head, **members})
 
-    def refused(self, found, head, members, size):
-        code, at = found["refused"], found.get("at")
+    def refused(self, found, head, members, way, data):
+        verdict = "beyond" if "beyond" in found else "refused"
+        self.counts(verdict)
+        code, at = found[verdict], found.get("at")
         want(isinstance(code, str) and re.fullmatch("[0-9a-f]{3}", code), "a refusal's code")
-        want(type(at) is int and 0 <= at <= size, "the place of a refusal")
-        head.update(refused=code, at=at, **name_of_code(found, "fault", int(code, 16)))
-        if head["kind"] == "command" and (code, at) == ("143", 6) and int(head["command_code"], 16) in COMMANDS:
-            head["name"] = "TPM2_" + head["command"]
-        same(found, {**head, **members})
+        want(type(at) is int and 0 <= at <= len(data), "the place of a refusal")
+        larger = bool(members) and is_larger(way, int(code, 16), at, data)
+        want((verdict == "beyond") == larger, "what is beyond the profile")
+        same(found, {**head, verdict: code, "at": at, **name_of_code(found, "fault", int(code, 16)), **members})
 
 
 def told(words, path, compare, teller):

@@ -20,8 +20,8 @@ def ip(to_tpm, fragment, packet):
     return struct.pack(">BBHHHBBH", 0x45, 0, 20 + len(packet), 1, fragment, 64, 6, 0) + bytes.fromhex(ends) + packet
 
 
-def tcp(to_tpm, number, data, client=40000, flags=0x18):
-    ports = (client, 2321) if to_tpm else (2321, client)
+def tcp(to_tpm, number, data, client=40000, flags=0x18, port=2321):
+    ports = (client, port) if to_tpm else (port, client)
     return struct.pack(">HHIIBBHHH", *ports, number % 2**32, 0, 0x50, flags, 65535, 0, 0) + data
 
 
@@ -48,6 +48,10 @@ def savefile(link, packets, order="<", magic=0xA1B2C3D4, captured=65535):
         yield struct.pack(order + "IIII", number, 0, len(kept), len(packet)) + kept
 
 
+def timed(packet, seconds, micros):
+    return struct.pack("<IIII", seconds, micros, len(packet), len(packet)) + packet
+
+
 def block(kind, body, order="<"):
     """A block of pcapng: its type, its length, what it tells, and its length again."""
     body += bytes(-len(body) % 4)
@@ -59,12 +63,17 @@ def section(order="<", version=1):
     return block(0x0A0D0D0A, struct.pack(order + "IHHq", 0x1A2B3C4D, version, 0, -1), order)
 
 
-def interface(link, captured=0, order="<"):
-    return block(1, struct.pack(order + "HHI", link, 0, captured), order)
+def option(code, value):
+    return struct.pack("<HH", code, len(value)) + value + bytes(-len(value) % 4)
 
 
-def enhanced(packet, interface=0, order="<"):
-    return block(6, struct.pack(order + "IIIII", interface, 0, 0, len(packet), len(packet)) + packet, order)
+def interface(link, captured=0, order="<", options=b""):
+    return block(1, struct.pack(order + "HHI", link, 0, captured) + options, order)
+
+
+def enhanced(packet, interface=0, order="<", units=0):
+    head = struct.pack(order + "IIIII", interface, units >> 32, units % 2**32, len(packet), len(packet))
+    return block(6, head + packet, order)
 
 
 def simple(packet, order="<", size=None):
@@ -114,6 +123,18 @@ FILES = {
                                  to(13, b"\x80", 40001)]),
     "others": savefile(101, [ip(True, 0, struct.pack(">HH", 40000, 22) + bytes(16)), to(1, b""), to(1, STARTUP)]),
     "empty": savefile(101, []),
+    "other_port": [
+        *savefile(101, []),
+        timed(ip(True, 0, tcp(True, 1, STARTUP, port=4321)), 1700000000, 123456),
+        timed(ip(False, 0, tcp(False, 1, DONE, port=4321)), 1700000001, 7),
+    ],
+    "times": [
+        *[section(), interface(101), interface(101, options=option(2, b"lo") + option(9, b"\x09") + option(0, b""))],
+        *[interface(101, options=option(9, b"\x8a")), interface(101, options=option(9, b"\x14"))],
+        interface(101, options=option(14, struct.pack("<q", 1)) + option(9, b"\x09")),
+        *[enhanced(packet, number, units=5 * 10**12 + 1) for number, packet in enumerate(
+            [to(1, STARTUP), back(1, DONE), to(13, STARTUP), back(11, DONE), to(25, STARTUP)])],
+    ],
     "short": [next(savefile(101, []))[:23]],
     "no_capture": [bytes.fromhex("0a0d0d0a"), bytes(60)],
     "link": savefile(147, SWTPM),

@@ -104,3 +104,11 @@ write_hundred() {
     done <checks/hundred.txt
     set +f
 }
+
+# named_codes: of each code of a TPM in checks/explain.txt its digits and its name, with a tab between them.
+named_codes() {
+    awk '
+        /^\$ explain (0[xX])?[0-9a-fA-F]+$/ { sub(/^0[xX]/, "", $3); codes[++count] = $3; next }
+        /^> TPM_RC_/ { sub(/^> /, ""); sub(/:.*/, ""); for (i = 1; i <= count; i++) print codes[i] "\t" $0 }
+        { count = 0 }' checks/explain.txt
+}

@@ -2,24 +2,32 @@
  * is the one that was asked for. Its signature is verified before, by other means.
  *
  *     attest LOG QUOTE sha1|sha256|sha384 NONCE_HEX REQUIRED
+ *     attest --vouched LOG QUOTE
  *     attest --changed COUNT LOG QUOTE sha1|sha256|sha384 NONCE_HEX REQUIRED
+ *     attest --signature FILE
  *
  * REQUIRED is as tpm2-tools write selections, like sha256:0,1,2+sha1:7 or sha256:all, and - where nothing is required.
- * The status is 0 where the quote is the one that was asked for. With --changed the quote is changed at random so
- * often, and what is answered of it is looked at: each part that is told lies in its bytes, and a changed quote is
- * refused or has another verdict or other parts. */
+ * The status is 0 where the quote is the one that was asked for. With --vouched each record of the log has a line of
+ * its register and of each bank in which the quote vouches for a part of it; what was asked for is not looked at then.
+ * With --changed the quote is changed at random so often, and what is answered of it is looked at: each part that is
+ * told lies in its bytes, and a changed quote is refused or has another verdict or other parts. With --signature the
+ * parts of a signature are told, as `tpm2_quote -s` writes it. */
 #include "vinjakwe.h"
 
 #include <stdio.h>
 #include <stdlib.h>
 #include <string.h>
 
-static uint8_t log_bytes[1 << 20], quote[TPM_BUFFER_BYTES], nonce[TPM_BUFFER_BYTES], required[64];
+static uint8_t log_bytes[1 << 20], quote[TPM_BUFFER_BYTES], nonce[TPM_BUFFER_BYTES];
+static uint8_t required[TPM_SELECTION_BYTES];
 static size_t log_len, quote_len, nonce_len, required_len;
 
-static const char *const kinds[] = {"Done", "Truncated", "TooLong", "NotCryptoAgile", "BadHeader",
-                                    "DuplicateAlgorithm", "WrongDigestSize", "UnknownAlgorithm", "RepeatedDigest",
-                                    "BadRegister", "BadLocality", "LateLocality"};
+/* The name of what a call on a log answered. */
+static void print_name(uint32_t answer) {
+    uint8_t name[TPM_LOG_NAME_BYTES];
+    size_t len = tpm_log_answer_name(answer, name, sizeof name);
+    printf("%.*s", (int)len, (const char *)name);
+}
 
 static const struct bank {
     const char *name;
@@ -68,43 +76,11 @@ static size_t read_hex(const char *text, uint8_t *room, size_t size) {
 }
 
 /* The TPML_PCR_SELECTION of a list like sha256:0,1,2+sha1:7, or no bytes of -. */
-static size_t read_required(const char *text, uint8_t *room) {
-    size_t len = 4;
-    if (strcmp(text, "-") == 0)
-        return 0;
-    memset(room, 0, 64);
-    for (;;) {
-        const char *colon = strchr(text, ':');
-        const struct bank *bank = colon == NULL ? NULL : bank_named(text, (size_t)(colon - text));
-        uint8_t *entry = room + len;
-        if (bank == NULL || len + 6 > 64)
-            usage();
-        entry[0] = (uint8_t)(bank->hash >> 8);
-        entry[1] = (uint8_t)bank->hash;
-        entry[2] = 3;
-        text = colon + 1;
-        if (strncmp(text, "all", 3) == 0) {
-            memset(entry + 3, 0xff, 3);
-            text += 3;
-        } else
-            for (;;) {
-                char *end;
-                unsigned long pcr = strtoul(text, &end, 10);
-                if (end == text || pcr > 23)
-                    usage();
-                entry[3 + pcr / 8] |= (uint8_t)(1 << pcr % 8);
-                text = end;
-                if (*text != ',')
-                    break;
-                text++;
-            }
-        len += 6;
-        room[3]++;
-        if (*text == 0)
-            return len;
-        if (*text++ != '+')
-            usage();
-    }
+static size_t read_required(const char *text, uint8_t *room, size_t size) {
+    size_t len = tpm_selection((const uint8_t *)text, strlen(text), room, size);
+    if (len == 0 && strcmp(text, "-") != 0)
+        usage();
+    return len;
 }
 
 static void print_part(const char *name, struct tpm_part part) {
@@ -150,12 +126,58 @@ static void print_verdict(uint32_t said, const struct tpm_attest_fault *fault) {
     case TPM_ATTEST_REQUIREMENT:
         printf("requirement refused %04lx at %lu\n", (unsigned long)fault->code, (unsigned long)fault->at);
         break;
-    default: printf("log %s at %lu\n", kinds[said], (unsigned long)fault->at);
+    default:
+        printf("log ");
+        print_name(said);
+        printf(" at %lu\n", (unsigned long)fault->at);
     }
+}
+
+/* The signature in the room of a quote, by its parts. */
+static int show_signature(size_t len) {
+    struct tpm_signature it;
+    struct tpm_refusal refusal;
+    if (tpm_signature_decode(quote, len, &it, &refusal) != TPM_DONE) {
+        printf("refused %03lx at %lu\n", (unsigned long)refusal.code, (unsigned long)refusal.at);
+        return 1;
+    }
+    printf("scheme %04x\nhash %s\n", (unsigned)it.scheme, bank_name(it.hash));
+    if (it.scheme != TPM_ALG_ECDSA)
+        print_part("sig", it.sig);
+    else {
+        print_part("r", it.r);
+        print_part("s", it.s);
+    }
+    return 0;
 }
 
 static uint32_t check(const uint8_t *bytes, size_t len, uint16_t hash, struct tpm_attest_fault *fault) {
     return tpm_log_check_attest(log_bytes, log_len, bytes, len, hash, nonce, nonce_len, required, required_len, fault);
+}
+
+/* Of each record what the quote vouches for. */
+static int show_vouched(void) {
+    static const char *const parts[] = {"data", "variable", "text", "cut", "digest"};
+    struct tpm_attest view;
+    struct tpm_refusal refusal;
+    struct tpm_log_place place = {0, 0};
+    struct tpm_log_event event;
+    uint32_t at;
+    if (tpm_attest_decode(quote, quote_len, &view, &refusal) != TPM_DONE)
+        return 1;
+    while (tpm_log_event(log_bytes, log_len, &place, &event, &at) == TPM_EVENT) {
+        printf("%lu", (unsigned long)event.pcr);
+        for (size_t i = 0; i < event.digest_count; i++) {
+            const struct tpm_log_digest *it = event.digests + i;
+            uint32_t part = tpm_log_vouched(quote + view.selections.at, view.selections.len, event.pcr, event.type,
+                                            log_bytes + event.data.at, event.data.len, it->hash,
+                                            log_bytes + it->digest.at, it->digest.len);
+            if (part >= TPM_MEASURED_DATA)
+                printf(" %s:%s", bank_name(it->hash), parts[part - TPM_MEASURED_DATA]);
+        }
+        printf("\n");
+    }
+    return 0;
 }
 
 /* ---- changed quotes */
@@ -236,13 +258,20 @@ int main(int argc, char **argv) {
         argc -= 2;
         argv += 2;
     }
+    if (argc == 3 && strcmp(argv[1], "--signature") == 0)
+        return show_signature(read_file(argv[2], quote, sizeof quote));
+    if (argc == 4 && strcmp(argv[1], "--vouched") == 0) {
+        log_len = read_file(argv[2], log_bytes, sizeof log_bytes);
+        quote_len = read_file(argv[3], quote, sizeof quote);
+        return show_vouched();
+    }
     if (argc != 6)
         usage();
     log_len = read_file(argv[1], log_bytes, sizeof log_bytes);
     quote_len = read_file(argv[2], quote, sizeof quote);
     bank = bank_named(argv[3], strlen(argv[3]));
     nonce_len = read_hex(argv[4], nonce, sizeof nonce);
-    required_len = read_required(argv[5], required);
+    required_len = read_required(argv[5], required, sizeof required);
     if (bank == NULL)
         usage();
     if (count > 0)

@@ -5,6 +5,7 @@
  *     events variables   REGISTER TYPE GUID NAME VALUE, where each lies, of the records whose data are a variable
  *     events texts       REGISTER NAME [text TEXT], the type by its name where it has one, and the data where they are
  *                        text
+ *     events measured    REGISTER TYPE HASH:PART .., which part of the data the digest of each bank is of
  *
  * A type and the numbers of the hashes are hexadecimal; first come the event's data, or where they are, and then each
  * digest. A star says that the digest is the hash of the data: firmware measures some events by the hash of something
@@ -20,9 +21,12 @@
 
 static uint8_t bytes[LOG_BYTES + 1];
 
-static const char *const kinds[] = {"Done", "Truncated", "TooLong", "NotCryptoAgile", "BadHeader",
-                                    "DuplicateAlgorithm", "WrongDigestSize", "UnknownAlgorithm", "RepeatedDigest",
-                                    "BadRegister", "BadLocality", "LateLocality"};
+/* The name of what a call on a log answered. */
+static void print_name(uint32_t answer) {
+    uint8_t name[TPM_LOG_NAME_BYTES];
+    size_t len = tpm_log_answer_name(answer, name, sizeof name);
+    printf("%.*s", (int)len, (const char *)name);
+}
 
 static void print_part(struct tpm_part part, int whole) {
     if (!whole)
@@ -95,6 +99,25 @@ static void print_names(const struct tpm_log_event *event) {
     printf("\n");
 }
 
+/* Which part of the data each digest is of. Exactly a digest of all the data is their hash, and else `!` is printed. */
+static void print_measured(const struct tpm_log_event *event) {
+    static const char *const parts[] = {"data", "variable", "text", "cut", "other"};
+    const uint8_t *data = bytes + event->data.at;
+    printf("%lu %08lx", (unsigned long)event->pcr, (unsigned long)event->type);
+    for (size_t i = 0; i < event->digest_count; i++) {
+        const struct tpm_log_digest *it = event->digests + i;
+        const uint8_t *digest = bytes + it->digest.at;
+        uint8_t hash[TPM_POLICY_BYTES];
+        size_t len = tpm_hash(it->hash, data, event->data.len, hash, sizeof hash);
+        int same = len == it->digest.len && memcmp(hash, digest, len) == 0;
+        uint32_t part = tpm_log_measured(event->type, data, event->data.len, it->hash, digest, it->digest.len);
+        if (part != TPM_QUOTE_NO_BANK)
+            printf(" %04x:%s%s", (unsigned)it->hash, parts[part - TPM_MEASURED_DATA],
+                   same == (part == TPM_MEASURED_DATA) ? "" : "!");
+    }
+    printf("\n");
+}
+
 int main(int argc, char **argv) {
     const char *words = argc == 2 ? argv[1] : "";
     size_t len = fread(bytes, 1, sizeof bytes, stdin);
@@ -102,12 +125,13 @@ int main(int argc, char **argv) {
     struct tpm_log_event event;
     uint32_t at, said;
     int variables = strcmp(words, "variables") == 0, texts = strcmp(words, "texts") == 0;
+    int measured = strcmp(words, "measured") == 0;
     if (ferror(stdin)) {
         fprintf(stderr, "events: standard input can't be read\n");
         return 3;
     }
-    if (argc > 2 || (argc == 2 && !variables && !texts && strcmp(words, "bytes") != 0)) {
-        fprintf(stderr, "usage: events [bytes | variables | texts]\n");
+    if (argc > 2 || (argc == 2 && !variables && !texts && !measured && strcmp(words, "bytes") != 0)) {
+        fprintf(stderr, "usage: events [bytes | variables | texts | measured]\n");
         return 2;
     }
     while ((said = tpm_log_event(bytes, len, &place, &event, &at)) == TPM_EVENT) {
@@ -115,11 +139,15 @@ int main(int argc, char **argv) {
             print_variable(&event);
         else if (texts)
             print_names(&event);
+        else if (measured)
+            print_measured(&event);
         else
             print_event(&event, argc == 2);
     }
     if (said == TPM_LOG_DONE)
         return 0;
-    printf("log %s at %lu\n", kinds[said], (unsigned long)at);
+    printf("log ");
+    print_name(said);
+    printf(" at %lu\n", (unsigned long)at);
     return 1;
 }

@@ -21,9 +21,12 @@
 static uint8_t bytes[LOG_BYTES + 1], registers[TPM_REGISTERS_BYTES], quote[TPM_BUFFER_BYTES];
 static uint64_t replay_room[1024];
 
-static const char *const kinds[] = {"Done", "Truncated", "TooLong", "NotCryptoAgile", "BadHeader",
-                                    "DuplicateAlgorithm", "WrongDigestSize", "UnknownAlgorithm", "RepeatedDigest",
-                                    "BadRegister", "BadLocality", "LateLocality"};
+/* The name of what a call on a log answered. */
+static void print_name(uint32_t answer) {
+    uint8_t name[TPM_LOG_NAME_BYTES];
+    size_t len = tpm_log_answer_name(answer, name, sizeof name);
+    printf("%.*s", (int)len, (const char *)name);
+}
 
 static const struct bank {
     const char *name;
@@ -42,7 +45,9 @@ static void print_registers(void) {
 }
 
 static int print_fault(uint32_t kind, uint32_t at) {
-    printf("log %s at %lu\n", kinds[kind], (unsigned long)at);
+    printf("log ");
+    print_name(kind);
+    printf(" at %lu\n", (unsigned long)at);
     return 1;
 }
 

@@ -17,14 +17,15 @@
 
 static uint8_t bytes[LOG_BYTES + 1];
 
-static const char *const log_kinds[] = {"Done", "Truncated", "TooLong", "NotCryptoAgile", "BadHeader",
-                                        "DuplicateAlgorithm", "WrongDigestSize", "UnknownAlgorithm", "RepeatedDigest",
-                                        "BadRegister", "BadLocality", "LateLocality"};
-
-static const char *const kinds[] = {"NotMeasured", "OtherType", "NoVariable", "Twice", "OtherValue", "Debugger",
-                                    "BadSeparator", "NoSeparator", "Late", "NoKey", "NoAuthority"};
-
-static const char *const states[] = {"on", "off", "unset"};
+/* The name of what a call on a log answered, behind these words, and where that is, if it is somewhere. */
+static void print_named(const char *words, uint32_t answer, uint32_t at) {
+    uint8_t name[TPM_LOG_NAME_BYTES];
+    size_t len = tpm_log_answer_name(answer, name, sizeof name);
+    printf("%s%.*s", words, (int)len, (const char *)name);
+    if (at != 0 || words[0] != '\0')
+        printf(" at %lu", (unsigned long)at);
+    printf("\n");
+}
 
 static uint16_t hash_of(const char *bank) {
     if (strcmp(bank, "sha1") == 0)
@@ -67,13 +68,15 @@ static int tell(const char *bank, size_t len) {
     if (said == TPM_SECURE_BOOT_NO_BANK)
         printf("no bank\n");
     else if (said < TPM_SECURE_BOOT_NO_BANK)
-        printf("log %s at %lu\n", log_kinds[said], (unsigned long)at);
-    else if (said >= TPM_SECURE_BOOT_NOT_MEASURED)
-        printf("secure-boot %s unknown %s at %lu\n", bank, kinds[said - TPM_SECURE_BOOT_NOT_MEASURED],
-               (unsigned long)at);
+        print_named("log ", said, at);
     else {
-        printf("secure-boot %s %s\n", bank, states[said - TPM_SECURE_BOOT_ON]);
-        print_found(&view, authorities, count);
+        printf("secure-boot %s ", bank);
+        if (said >= TPM_SECURE_BOOT_NOT_MEASURED)
+            print_named("unknown ", said, at);
+        else {
+            print_named("", said, 0);
+            print_found(&view, authorities, count);
+        }
     }
     if (authorities != first)
         free(authorities);

@@ -4,6 +4,7 @@
  *     command HEX
  *     reply NAME HEX
  *     build NAME HANDLES SESSIONS PARAMETERS
+ *     code HEX                                    the name of a response code, or its number
  *
  * NAME is the command's name in Part 3, and HEX and the parts are hexadecimal, or `-` for no bytes. With the word
  * `first` it prints the first line of each alone, and with `room N` commands are joined in a room of so many bytes.
@@ -162,6 +163,16 @@ static void build(const char *name, const char *handles, const char *sessions, c
     printf("\n");
 }
 
+static void name_response_code(const char *digits) {
+    uint8_t name[TPM_CODE_NAME_BYTES];
+    uint32_t code = (uint32_t)strtoul(digits, NULL, 16);
+    size_t len = tpm_code_name(code, name, sizeof name);
+    if (len > 0)
+        printf("%.*s\n", (int)len, (const char *)name);
+    else
+        printf("%#x\n", (unsigned)code);
+}
+
 int main(int argc, char **argv) {
     first_alone = argc > 1 && strcmp(argv[1], "first") == 0;
     if (argc > 2 && strcmp(argv[1], "room") == 0)
@@ -179,6 +190,8 @@ int main(int argc, char **argv) {
             show_response(words[1], bytes_of(words[2], bytes[0]));
         else if (strcmp(words[0], "build") == 0)
             build(words[1], words[2], words[3], words[4]);
+        else if (strcmp(words[0], "code") == 0)
+            name_response_code(words[1]);
         else
             return 2;
     }

@@ -210,6 +210,29 @@ uint32_t tpm_command_build(uint32_t command, const uint8_t *handles, size_t hand
                            const uint8_t *parameters, size_t parameters_len, uint8_t *out, size_t out_len, size_t *count,
                            struct tpm_refusal *refusal);
 
+/* ---- names and hashes */
+
+/* How many bytes the name of a response code has at most. */
+#define TPM_CODE_NAME_BYTES 37
+
+/* Writes the name of a response code to the beginning of `out`, with no zero behind it, and says how many bytes it has:
+ * TPM_CODE_NAME_BYTES at most. It is TPM_RC_LOCKOUT, or with the handle, session or parameter that the code tells
+ * `TPM_RC_BAD_AUTH for session 1` (Part 2, 6.6). It answers 0, and nothing is written, where out_len is less, or where no code is
+ * listed there that has this number. */
+size_t tpm_code_name(uint32_t code, uint8_t *out, size_t out_len);
+
+/* Writes the hash of the bytes (FIPS 180-4) to the beginning of `out`, and says how many bytes it has: 20 of TPM_ALG_SHA1, 32 of
+ * TPM_ALG_SHA256, 48 of TPM_ALG_SHA384. It answers 0, and nothing is written, where out_len is less, or of another hash. */
+size_t tpm_hash(uint16_t hash, const uint8_t *bytes, size_t len, uint8_t *out, size_t out_len);
+
+/* How many bytes a TPML_PCR_SELECTION has with an entry for each bank (Part 2, 10.9.7). */
+#define TPM_SELECTION_BYTES 22
+
+/* Writes the registers that a text lists as tpm2-tools do, `sha1:7+sha256:0,1,2` or `sha256:all`, to the beginning of `out`, as a
+ * TPML_PCR_SELECTION as it is spelled, and says how many bytes it has: TPM_SELECTION_BYTES. It answers 0, and nothing is written,
+ * for any other text, or where out_len is less. */
+size_t tpm_selection(const uint8_t *text, size_t len, uint8_t *out, size_t out_len);
+
 /* ---- a log of a measured boot (PC Client Platform Firmware Profile, "Event Logging") */
 
 /* How many bytes the registers of all banks have: SHA-1 of register i at 20 * i, SHA-256 at 480 + 32 * i, SHA-384 at
@@ -322,6 +345,19 @@ struct tpm_variable {
  * EV_EFI_SPDM_DEVICE_AUTHORITY; `view` stays as it was. */
 uint32_t tpm_log_variable(uint32_t kind, const uint8_t *bytes, size_t len, struct tpm_variable *view);
 
+/* Which part of a record's data a digest is of: all of them; the value of the variable that they are; in EV_IPL, the text behind a
+ * prefix that GRUB writes and does not measure, as `kernel_cmdline: `; all but the last byte; or none of these, so that something
+ * else was measured than what the log says. */
+#define TPM_MEASURED_DATA ((uint32_t)36)
+#define TPM_MEASURED_VARIABLE ((uint32_t)37)
+#define TPM_MEASURED_TEXT ((uint32_t)38)
+#define TPM_MEASURED_CUT ((uint32_t)39)
+#define TPM_MEASURED_OTHER ((uint32_t)40)
+
+/* Tells which part of these bytes, the data of a record of this type, the record's digest in the bank of this hash is of (TPM_ALG_SHA1,
+ * TPM_ALG_SHA256 or TPM_ALG_SHA384): the first of TPM_MEASURED_DATA to TPM_MEASURED_OTHER that fits; or TPM_QUOTE_NO_BANK. */
+uint32_t tpm_log_measured(uint32_t kind, const uint8_t *bytes, size_t len, uint16_t hash, const uint8_t *digest, size_t digest_len);
+
 /* What a log tells of Secure Boot besides its state: 1 where DMA protection was disabled, else 0; and how many bytes of the log
  * precede the records of PK, KEK, db and dbx, or 0 where one was not measured. tpm_log_event tells the record at such a place, where
  * `late` is 0. */
@@ -336,7 +372,7 @@ struct tpm_secure_boot {
 /* What is said of Secure Boot, besides the faults of the log. */
 #define TPM_SECURE_BOOT_ON ((uint32_t)48)            /* SecureBoot was 1, PK, KEK and db held something, and there is an authority */
 #define TPM_SECURE_BOOT_OFF ((uint32_t)49)           /* SecureBoot was 0 */
-#define TPM_SECURE_BOOT_UNSET ((uint32_t)50)         /* SecureBoot had no byte, or was not measured */
+#define TPM_SECURE_BOOT_UNSET ((uint32_t)50)         /* SecureBoot had no byte */
 #define TPM_SECURE_BOOT_NO_ROOM ((uint32_t)51)       /* there are more authorities than places for them */
 #define TPM_SECURE_BOOT_NO_BANK ((uint32_t)18)       /* no bank has this hash */
 #define TPM_SECURE_BOOT_NOT_MEASURED ((uint32_t)64)  /* no digest of the bank is the hash of the record's data */
@@ -350,10 +386,11 @@ struct tpm_secure_boot {
 #define TPM_SECURE_BOOT_LATE ((uint32_t)72)          /* behind the separator, another type than EV_EFI_VARIABLE_AUTHORITY */
 #define TPM_SECURE_BOOT_NO_KEY ((uint32_t)73)        /* SecureBoot is 1, and PK, KEK or db holds nothing */
 #define TPM_SECURE_BOOT_NO_AUTHORITY ((uint32_t)74)  /* SecureBoot is 1, and the log ends without an authority */
+#define TPM_SECURE_BOOT_NO_SECURE_BOOT ((uint32_t)75) /* the log ends, and SecureBoot was not measured */
 
 /* Tells whether Secure Boot was on, by the records of register 7 in the bank of this hash (TPM_ALG_SHA1, TPM_ALG_SHA256 or
  * TPM_ALG_SHA384; PC Client Platform Firmware Profile, "PCR[7]"). The first of these is answered: TPM_SECURE_BOOT_NO_BANK; the log's
- * first fault, TPM_LOG_..; the first fault of what the records tell, TPM_SECURE_BOOT_NOT_MEASURED to TPM_SECURE_BOOT_NO_AUTHORITY;
+ * first fault, TPM_LOG_..; the first fault of what the records tell, TPM_SECURE_BOOT_NOT_MEASURED to TPM_SECURE_BOOT_NO_SECURE_BOOT;
  * TPM_SECURE_BOOT_NO_ROOM; TPM_SECURE_BOOT_ON, TPM_SECURE_BOOT_OFF or TPM_SECURE_BOOT_UNSET.
  *
  * With a state, the rest is in `view`, and `authorities` has at its beginning how many bytes of the log precede each authority (the
@@ -365,6 +402,15 @@ struct tpm_secure_boot {
  * What is told is as true as register 7: a quote that selects it vouches for it, and this call looks at no quote. */
 uint32_t tpm_log_secure_boot(const uint8_t *log, size_t len, uint16_t hash, struct tpm_secure_boot *view, uint32_t *authorities,
                              size_t authorities_len, size_t *count, uint32_t *at);
+
+/* How many bytes the name of an answer has at most. */
+#define TPM_LOG_NAME_BYTES 18
+
+/* Writes the name of what a call on a log answered to the beginning of `out`, with no zero behind it, and says how many bytes it has:
+ * TPM_LOG_NAME_BYTES at most. It is `Truncated` of TPM_LOG_TRUNCATED, `on` of TPM_SECURE_BOOT_ON, `NotMeasured` of
+ * TPM_SECURE_BOOT_NOT_MEASURED, and so on, as `tpmtool check` prints them. It answers 0, and nothing is written, where out_len is
+ * less, or of an answer that is no fault of a log, no state of Secure Boot and no reason why none is told. */
+size_t tpm_log_answer_name(uint32_t answer, uint8_t *out, size_t out_len);
 
 /* A replay of a log that comes in pieces, however it is cut. */
 struct tpm_log_replay;
@@ -417,6 +463,30 @@ struct tpm_attest {
 /* Cuts a quote as it was signed, whatever bytes are handed in. TPM_DONE: its parts are in `view`; TPM_REFUSED: all the bytes spell
  * none, and their first fault is in `refusal`. What isn't written so stays as it was. */
 uint32_t tpm_attest_decode(const uint8_t *attest, size_t len, struct tpm_attest *view, struct tpm_refusal *refusal);
+
+/* The signature of a quote, TPMT_SIGNATURE (Part 2, 11.3.4), by its parts in the bytes that were handed in: its scheme, TPM_ALG_RSASSA,
+ * TPM_ALG_RSAPSS or TPM_ALG_ECDSA; its hash; the signature by an RSA key; and the numbers r and s of one by a key on a curve, the more
+ * significant byte first. What is not there is 0. */
+struct tpm_signature {
+    uint16_t scheme;
+    uint16_t hash;
+    struct tpm_part sig;
+    struct tpm_part r;
+    struct tpm_part s;
+};
+
+/* Cuts a signature as `tpm2_quote -s` writes it, whatever bytes are handed in. TPM_DONE: its parts are in `view`; TPM_REFUSED: all the
+ * bytes spell none, and their first fault is in `refusal`. What isn't written so stays as it was. Whether the signature is right is for
+ * another library. */
+uint32_t tpm_signature_decode(const uint8_t *signature, size_t len, struct tpm_signature *view, struct tpm_refusal *refusal);
+
+/* Tells what a quote with these selections, a TPML_PCR_SELECTION as it is spelled, vouches for in a record of this register and type,
+ * of these data, by its digest in the bank of this hash. Where tpm_log_check_attest matched the log: the part of the data that the
+ * digest is of, TPM_MEASURED_DATA to TPM_MEASURED_CUT, or with TPM_MEASURED_OTHER the digest alone, and nothing of the data. It never
+ * vouches for the type. TPM_LOG_DONE: for nothing, since the register isn't selected in the bank, or the type is EV_NO_ACTION. Else
+ * TPM_ATTEST_NO_BANK, or TPM_ATTEST_REQUIREMENT for bytes that are no selection. */
+uint32_t tpm_log_vouched(const uint8_t *selections, size_t selections_len, uint32_t pcr, uint32_t kind, const uint8_t *bytes,
+                         size_t bytes_len, uint16_t hash, const uint8_t *digest, size_t digest_len);
 
 /* What is wrong: the response code of refused bytes; how many bytes of them, or of the log, are before what is at fault; the bank
  * (TPM_ALG_SHA1, TPM_ALG_SHA256 or TPM_ALG_SHA384) and the register that are required and not selected. What does not apply is 0. */
@@ -561,6 +631,9 @@ uint32_t tpm_policy_auth_value(struct tpm_policy *policy);
 #define TPM_ALG_SHA256               ((uint16_t)0x000B)
 #define TPM_ALG_SHA384               ((uint16_t)0x000C)
 #define TPM_ALG_NULL                 ((uint16_t)0x0010)
+#define TPM_ALG_RSASSA               ((uint16_t)0x0014)
+#define TPM_ALG_RSAPSS               ((uint16_t)0x0016)
+#define TPM_ALG_ECDSA                ((uint16_t)0x0018)
 #define TPM_ALG_CFB                  ((uint16_t)0x0043)
 
 /* TPM_RH, TPM_RS: permanent handles (7.4) */

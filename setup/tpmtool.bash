@@ -12,16 +12,16 @@ _tpmtool() {
         show,--reply) words=$commands ;;
         show,--file | show,--pcap | show,--nv | check,--registers | check,--attest) files=yes ;;
         check,--hash) words='sha1 sha256 sha384' ;;
-        run,--owner | run,--greatest | check,--quote | check,--nonce | check,--require | events,--register) ;;
+        show,--port | run,--owner | run,--greatest | check,--quote | check,--nonce | check,--require | check,--signer | events,--register) ;;
         *)
             case $verb,$now in
-            show,-*) words='--reply --fields --file --binary --json --pcap --nv --help' ;;
+            show,-*) words='--reply --fields --file --binary --json --pcap --port --nv --help' ;;
             build,-*) words='--help' ;;
             explain,-*) words='--decimal --help' ;;
             build,*) words=$commands ;;
             run,-*) words='--owner --greatest --help' ;;
-            check,-*) words='--registers --quote --attest --nonce --require --hash --secure-boot --any-state --json
-                --help' ;;
+            check,-*) words='--registers --quote --attest --nonce --any-nonce --require --any-selection --signer --hash
+                --secure-boot --any-state --json --help' ;;
             events,-*) words='--register --places --digests --json --help' ;;
             check,* | events,*) files=yes ;;
             esac

@@ -12,6 +12,7 @@ complete -c tpmtool -n '__fish_seen_subcommand_from show' -l reply -x -a "$comma
 complete -c tpmtool -n '__fish_seen_subcommand_from show' -l fields
 complete -c tpmtool -n '__fish_seen_subcommand_from show' -l file -r -F
 complete -c tpmtool -n '__fish_seen_subcommand_from show' -l pcap -r -F
+complete -c tpmtool -n '__fish_seen_subcommand_from show' -l port -x
 complete -c tpmtool -n '__fish_seen_subcommand_from show' -l nv -r -F
 complete -c tpmtool -n '__fish_seen_subcommand_from show' -l binary
 complete -c tpmtool -n '__fish_seen_subcommand_from show check events' -l json
@@ -24,7 +25,10 @@ complete -c tpmtool -n '__fish_seen_subcommand_from check' -l registers -r -F
 complete -c tpmtool -n '__fish_seen_subcommand_from check' -l quote -x
 complete -c tpmtool -n '__fish_seen_subcommand_from check' -l attest -r -F
 complete -c tpmtool -n '__fish_seen_subcommand_from check' -l nonce -x
+complete -c tpmtool -n '__fish_seen_subcommand_from check' -l any-nonce
 complete -c tpmtool -n '__fish_seen_subcommand_from check' -l require -x
+complete -c tpmtool -n '__fish_seen_subcommand_from check' -l any-selection
+complete -c tpmtool -n '__fish_seen_subcommand_from check' -l signer -x
 complete -c tpmtool -n '__fish_seen_subcommand_from check' -l hash -x -a 'sha1 sha256 sha384'
 complete -c tpmtool -n '__fish_seen_subcommand_from check' -l secure-boot
 complete -c tpmtool -n '__fish_seen_subcommand_from check' -l any-state

@@ -17,35 +17,17 @@ type BootFault struct {
 
 func (f *BootFault) Error() string { return fmt.Sprintf("secure boot unknown %s at %d", f.Kind, f.At) }
 
-var bootFaults = map[C.uint32_t]string{
-	C.TPM_SECURE_BOOT_NOT_MEASURED: "NotMeasured", C.TPM_SECURE_BOOT_OTHER_TYPE: "OtherType",
-	C.TPM_SECURE_BOOT_NO_VARIABLE: "NoVariable", C.TPM_SECURE_BOOT_TWICE: "Twice",
-	C.TPM_SECURE_BOOT_OTHER_VALUE: "OtherValue", C.TPM_SECURE_BOOT_DEBUGGER: "Debugger",
-	C.TPM_SECURE_BOOT_BAD_SEPARATOR: "BadSeparator", C.TPM_SECURE_BOOT_NO_SEPARATOR: "NoSeparator",
-	C.TPM_SECURE_BOOT_LATE: "Late", C.TPM_SECURE_BOOT_NO_KEY: "NoKey", C.TPM_SECURE_BOOT_NO_AUTHORITY: "NoAuthority",
-}
-
 // A BootState says whether Secure Boot was on.
 type BootState uint32
 
 const (
 	On    BootState = C.TPM_SECURE_BOOT_ON    // SecureBoot was 1, and PK, KEK, db and an authority are there
 	Off   BootState = C.TPM_SECURE_BOOT_OFF   // SecureBoot was 0
-	Unset BootState = C.TPM_SECURE_BOOT_UNSET // SecureBoot had no byte, or was not measured
+	Unset BootState = C.TPM_SECURE_BOOT_UNSET // SecureBoot had no byte
 )
 
 // String says it in a word.
-func (s BootState) String() string {
-	switch s {
-	case On:
-		return "on"
-	case Off:
-		return "off"
-	case Unset:
-		return "unset"
-	}
-	return fmt.Sprintf("BootState(%d)", uint32(s))
-}
+func (s BootState) String() string { return answerName(C.uint32_t(s)) }
 
 // A Boot is what a log tells of Secure Boot: its state, whether DMA protection was disabled, and how many bytes of the
 // log precede the records of PK, KEK, db and dbx, or 0 where one was not measured, and of each authority.
@@ -77,8 +59,8 @@ func SecureBoot(log []byte, hash Hash) (*Boot, error) {
 			return &Boot{BootState(said), view.dma_protection_disabled != 0, uint32(view.pk), uint32(view.kek), uint32(view.db),
 				uint32(view.dbx), places[:count]}, nil
 		}
-		if kind, known := bootFaults[said]; known {
-			return nil, &BootFault{kind, uint32(at)}
+		if said >= C.TPM_SECURE_BOOT_NOT_MEASURED {
+			return nil, &BootFault{answerName(said), uint32(at)}
 		}
 		return nil, logJudged(said, at)
 	}

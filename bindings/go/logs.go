@@ -24,19 +24,17 @@ type LogFault struct {
 
 func (f *LogFault) Error() string { return fmt.Sprintf("log %s at %d", f.Kind, f.At) }
 
-var logFaults = map[C.uint32_t]string{
-	C.TPM_LOG_TRUNCATED: "Truncated", C.TPM_LOG_TOO_LONG: "TooLong", C.TPM_LOG_NOT_CRYPTO_AGILE: "NotCryptoAgile",
-	C.TPM_LOG_BAD_HEADER: "BadHeader", C.TPM_LOG_DUPLICATE_ALGORITHM: "DuplicateAlgorithm",
-	C.TPM_LOG_WRONG_DIGEST_SIZE: "WrongDigestSize", C.TPM_LOG_UNKNOWN_ALGORITHM: "UnknownAlgorithm",
-	C.TPM_LOG_REPEATED_DIGEST: "RepeatedDigest", C.TPM_LOG_BAD_REGISTER: "BadRegister",
-	C.TPM_LOG_BAD_LOCALITY: "BadLocality", C.TPM_LOG_LATE_LOCALITY: "LateLocality",
+// answerName is the name of what a call on a log answered, as "Truncated" or "NotMeasured".
+func answerName(answer C.uint32_t) string {
+	var name [C.TPM_LOG_NAME_BYTES]byte
+	return string(name[:C.tpm_log_answer_name(answer, place(name[:]), size(name[:]))])
 }
 
 func logJudged(kind, at C.uint32_t) error {
 	if kind == C.TPM_LOG_DONE {
 		return nil
 	}
-	return &LogFault{logFaults[kind], uint32(at)}
+	return &LogFault{answerName(kind), uint32(at)}
 }
 
 // A Hash is the number of a hash, TPM_ALG.
@@ -129,6 +127,16 @@ type Event struct {
 	Data     []byte
 }
 
+// Digest is the record's of a bank, or nil where it has none.
+func (e Event) Digest(hash Hash) []byte {
+	for _, it := range e.Digests {
+		if it.Hash == hash {
+			return it.Bytes
+		}
+	}
+	return nil
+}
+
 // EventTypeName is the name of a type of records, as "EV_SEPARATOR", or "" where the PC Client Platform Firmware
 // Profile names none.
 func EventTypeName(kind uint32) string {
@@ -160,6 +168,61 @@ func wide(bytes []byte) string {
 		units[i] = binary.LittleEndian.Uint16(bytes[2*i:])
 	}
 	return string(utf16.Decode(units))
+}
+
+// A Part of an event's data that a digest is of.
+type Part uint32
+
+const (
+	AllData       Part = C.TPM_MEASURED_DATA     // all of them
+	VariableValue Part = C.TPM_MEASURED_VARIABLE // the value of the variable that they are
+	BehindPrefix  Part = C.TPM_MEASURED_TEXT     // what stands behind a prefix that GRUB writes, as "kernel_cmdline: "
+	WithoutLast   Part = C.TPM_MEASURED_CUT      // all but the last byte
+	Other         Part = C.TPM_MEASURED_OTHER    // none of these: something else was measured than what the log says
+)
+
+// String is its word, as tpmtool has it.
+func (p Part) String() string {
+	switch p {
+	case AllData:
+		return "data"
+	case VariableValue:
+		return "variable"
+	case BehindPrefix:
+		return "text"
+	case WithoutLast:
+		return "cut"
+	}
+	return "other"
+}
+
+// Measured is which part of the event's data the digest of each bank is of.
+func (e Event) Measured() map[Hash]Part {
+	found := map[Hash]Part{}
+	for _, it := range e.Digests {
+		part := C.tpm_log_measured(C.uint32_t(e.Type), place(e.Data), size(e.Data), C.uint16_t(it.Hash), place(it.Bytes),
+			size(it.Bytes))
+		if part != C.TPM_QUOTE_NO_BANK {
+			found[it.Hash] = Part(part)
+		}
+	}
+	return found
+}
+
+// Vouched is what a quote vouches for in a record of a log that Check has compared with it: of each bank in which it
+// selects the record's register, the part of the data that this bank's digest is of, or Other, the digest alone and
+// nothing of the data. It never vouches for the type, and for nothing of a record of EV_NO_ACTION.
+func (e Event) Vouched(attest *Attest) map[Hash]Part {
+	found := map[Hash]Part{}
+	selections := attest.Info[:len(attest.Info)-2-len(attest.Digest)]
+	for _, it := range e.Digests {
+		part := C.tpm_log_vouched(place(selections), size(selections), C.uint32_t(e.Register), C.uint32_t(e.Type),
+			place(e.Data), size(e.Data), C.uint16_t(it.Hash), place(it.Bytes), size(it.Bytes))
+		if part != C.TPM_LOG_DONE && part != C.TPM_QUOTE_NO_BANK {
+			found[it.Hash] = Part(part)
+		}
+	}
+	return found
 }
 
 // A Variable of the firmware: its vendor's GUID as it lies in memory, its name, in which a unit that is no UTF-16 is
@@ -235,6 +298,8 @@ const (
 	Nonce   Verdict = C.TPM_ATTEST_NONCE   // the nonce is another
 	Lacks   Verdict = C.TPM_ATTEST_LACKS   // a required register is not selected
 	Empty   Verdict = C.TPM_ATTEST_EMPTY   // no register is selected
+	Signer  Verdict = -1                   // the signer is another
+	Unknown Verdict = -2                   // a digest of the log is not on the list
 )
 
 // String says it in words.
@@ -250,14 +315,20 @@ func (v Verdict) String() string {
 		return "lacks a required register"
 	case Empty:
 		return "selects nothing"
+	case Signer:
+		return "signer differs"
+	case Unknown:
+		return "a digest is not allowed"
 	}
 	return fmt.Sprintf("Verdict(%d)", int(v))
 }
 
-// A Selected register is the one that a quote lacks.
+// A Selected register is the one that a quote lacks, or the one of the digest that is not allowed, with how many bytes
+// of the log precede its record.
 type Selected struct {
 	Bank     Hash
 	Register uint32
+	At       uint32
 }
 
 // String is its bank and its number, as "sha256 7".
@@ -283,17 +354,21 @@ func CheckQuote(log, quote []byte, hash Hash) (Verdict, error) {
 }
 
 // Expected is what Check compares a quote with: the nonce that was sent, the TPML_PCR_SELECTION of the registers that
-// have to be there, which Selection makes of a text, and the hash of the signature's scheme. Where AnyNonce is true,
-// the quote may be an old one; where AnySelection is true, it may be of any registers.
+// have to be there, which Selection makes of a text, the qualified Name of the key, if it is not nil, and the hash of
+// the signature's scheme. Where AnyNonce is true, the quote may be an old one; where AnySelection is true, it may be of
+// any registers. Where Allow is not nil, the quote has to select each register that it names, and each digest of the
+// log there has to be on it.
 type Expected struct {
 	Nonce, Selection       []byte
+	Signer                 []byte
+	Allow                  Allowed
 	Hash                   Hash
 	AnyNonce, AnySelection bool
 }
 
 // Check compares a log with a TPMS_ATTEST of a quote, whose signature has to be verified elsewhere. The quote is good
 // where the verdict is Matches and the error nil. Otherwise the error is a *LogFault, a *Refusal of the quote's bytes,
-// ErrNoBank, ErrRequirement, or ErrNothing where the nonce has no byte, or the selection no register.
+// ErrSized, ErrNoBank, ErrRequirement, or ErrNothing where the nonce has no byte, or the selection no register.
 func Check(log, attest []byte, expected Expected) (Verdict, Selected, error) {
 	var fault C.struct_tpm_attest_fault
 	nonce, selection := expected.Nonce, expected.Selection
@@ -312,7 +387,17 @@ func Check(log, attest []byte, expected Expected) (Verdict, Selected, error) {
 	if isNothing && answer != C.TPM_ATTEST_NO_BANK && answer != C.TPM_ATTEST_REQUIREMENT {
 		return Differs, Selected{}, ErrNothing
 	}
-	return said(answer, &fault)
+	verdict, lacks, err := said(answer, &fault)
+	if err != nil {
+		return verdict, lacks, named(attest, err)
+	}
+	if it, err := DecodeAttest(attest); err == nil && expected.Signer != nil && !bytes.Equal(it.Signer, expected.Signer) {
+		return Signer, Selected{}, nil
+	}
+	if verdict == Matches && expected.Allow != nil {
+		verdict, lacks = expected.Allow.compared(log, attest)
+	}
+	return verdict, lacks, nil
 }
 
 // said is what TPM_QUOTE and TPM_ATTEST, which have the same numbers, say of a quote.
@@ -322,7 +407,7 @@ func said(answer C.uint32_t, fault *C.struct_tpm_attest_fault) (Verdict, Selecte
 	case C.TPM_ATTEST_MATCHES, C.TPM_ATTEST_DIFFERS, C.TPM_ATTEST_NONCE, C.TPM_ATTEST_EMPTY:
 		return Verdict(answer), Selected{}, nil
 	case C.TPM_ATTEST_LACKS:
-		return Lacks, Selected{Hash(fault.hash), uint32(fault.pcr)}, nil
+		return Lacks, Selected{Bank: Hash(fault.hash), Register: uint32(fault.pcr)}, nil
 	case C.TPM_ATTEST_REFUSED:
 		return Differs, Selected{}, refusal
 	case C.TPM_ATTEST_REQUIREMENT:

@@ -6,52 +6,18 @@ package vinjakwe
 import "C"
 
 import (
+	"bytes"
 	"encoding/binary"
 	"fmt"
-	"strconv"
-	"strings"
+	"math/big"
 )
-
-// The banks in the order in which a selection has them.
-var hashes = [...]Hash{SHA1, SHA256, SHA384}
-
-// registersOf are the registers of a list as "0,7" or "all", as the bits of three bytes.
-func registersOf(list string) (bits uint32, known bool) {
-	if list == "all" {
-		return 1<<24 - 1, true
-	}
-	for _, word := range strings.Split(list, ",") {
-		register, err := strconv.ParseUint(word, 10, 8)
-		if err != nil || register > 23 {
-			return 0, false
-		}
-		bits |= 1 << register
-	}
-	return bits, true
-}
 
 // Selection is the TPML_PCR_SELECTION of registers as tpm2-tools list them, "sha1:7+sha256:0,1,2" or "sha256:all", or
 // ErrList.
 func Selection(text string) ([]byte, error) {
-	bits := map[Hash]uint32{}
-	for _, part := range strings.Split(text, "+") {
-		name, list, _ := strings.Cut(part, ":")
-		found, known := registersOf(list)
-		bank := Hash(0)
-		for _, hash := range hashes {
-			if hash.String() == name {
-				bank = hash
-			}
-		}
-		if bank == 0 || !known {
-			return nil, fmt.Errorf("%w: %q", ErrList, part)
-		}
-		bits[bank] |= found
-	}
-	spelled := binary.BigEndian.AppendUint32(nil, uint32(len(hashes)))
-	for _, hash := range hashes {
-		spelled = binary.BigEndian.AppendUint16(spelled, uint16(hash))
-		spelled = append(spelled, 3, byte(bits[hash]), byte(bits[hash]>>8), byte(bits[hash]>>16))
+	spelled := make([]byte, C.TPM_SELECTION_BYTES)
+	if C.tpm_selection(place([]byte(text)), C.size_t(len(text)), place(spelled), size(spelled)) == 0 {
+		return nil, fmt.Errorf("%w: %q", ErrList, text)
 	}
 	return spelled, nil
 }
@@ -60,6 +26,16 @@ func Selection(text string) ([]byte, error) {
 type SelectedBank struct {
 	Bank      Hash
 	Registers []int
+}
+
+// Has says whether the register is selected.
+func (s SelectedBank) Has(register uint32) bool {
+	for _, it := range s.Registers {
+		if it == int(register) {
+			return true
+		}
+	}
+	return false
 }
 
 // An Attest is a quote as it was signed, a TPMS_ATTEST, by its parts, which are lent from the bytes that were decoded:
@@ -75,21 +51,62 @@ type Attest struct {
 	Digest, Info     []byte
 }
 
-// DecodeAttest gives the quote as it was signed that all the bytes spell, or a *Refusal.
-func DecodeAttest(bytes []byte) (*Attest, error) {
+// DecodeAttest gives the quote as it was signed that all the bytes spell, or a *Refusal, or ErrSized.
+func DecodeAttest(signed []byte) (*Attest, error) {
 	var it C.struct_tpm_attest
 	var refusal C.struct_tpm_refusal
-	answer := C.tpm_attest_decode(place(bytes), size(bytes), &it, &refusal)
+	answer := C.tpm_attest_decode(place(signed), size(signed), &it, &refusal)
+	if err := judged(answer, &refusal); err != nil {
+		return nil, named(signed, err)
+	}
+	attest := &Attest{
+		Signer: part(signed, it.signer), Nonce: part(signed, it.nonce), Clock: uint64(it.clock),
+		Resets: uint32(it.reset_count), Restarts: uint32(it.restart_count), Safe: it.safe != 0,
+		Firmware: uint64(it.firmware_version),
+		Digest:   part(signed, it.digest), Info: signed[it.selections.at:],
+	}
+	attest.Selections = entries(part(signed, it.selections))
+	return attest, nil
+}
+
+// named is ErrSized in the place of a *Refusal of bytes that begin with the size of a TPMS_ATTEST and that.
+func named(signed []byte, err error) error {
+	if _, refused := err.(*Refusal); refused && len(signed) > 6 && bytes.HasPrefix(signed[2:], generated) &&
+		int(binary.BigEndian.Uint16(signed)) == len(signed)-2 {
+		return ErrSized
+	}
+	return err
+}
+
+// The schemes of signatures, TPM_ALG.
+const (
+	RSASSA uint16 = C.TPM_ALG_RSASSA
+	RSAPSS uint16 = C.TPM_ALG_RSAPSS
+	ECDSA  uint16 = C.TPM_ALG_ECDSA
+)
+
+// A Signature of a quote, a TPMT_SIGNATURE, by its scheme, its hash and its parts: the bytes of one by an RSA key,
+// which are lent from those that were decoded, or the numbers of one by a key on a curve.
+type Signature struct {
+	Scheme uint16
+	Hash   Hash
+	Sig    []byte
+	R, S   *big.Int
+}
+
+// DecodeSignature gives the signature that all the bytes spell, as `tpm2_quote -s` writes it without `-f plain`, or a
+// *Refusal. Whether it is right is for another package.
+func DecodeSignature(signature []byte) (*Signature, error) {
+	var it C.struct_tpm_signature
+	var refusal C.struct_tpm_refusal
+	answer := C.tpm_signature_decode(place(signature), size(signature), &it, &refusal)
 	if err := judged(answer, &refusal); err != nil {
 		return nil, err
 	}
-	attest := &Attest{
-		Signer: part(bytes, it.signer), Nonce: part(bytes, it.nonce), Clock: uint64(it.clock), Resets: uint32(it.reset_count),
-		Restarts: uint32(it.restart_count), Safe: it.safe != 0, Firmware: uint64(it.firmware_version),
-		Digest: part(bytes, it.digest), Info: bytes[it.selections.at:],
-	}
-	attest.Selections = entries(part(bytes, it.selections))
-	return attest, nil
+	return &Signature{
+		Scheme: uint16(it.scheme), Hash: Hash(it.hash), Sig: part(signature, it.sig),
+		R: new(big.Int).SetBytes(part(signature, it.r)), S: new(big.Int).SetBytes(part(signature, it.s)),
+	}, nil
 }
 
 // entries are those of the TPML_PCR_SELECTION that these bytes begin with, or none where there are too few.

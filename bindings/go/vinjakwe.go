@@ -47,6 +47,7 @@ func (r *Refusal) Error() string {
 // What else may be wrong.
 var (
 	ErrAttest      = errors.New("this is a whole TPMS_ATTEST, which Check takes; DecodeAttest gives its TPMS_QUOTE_INFO")
+	ErrSized       = errors.New("a size stands before it: this is a TPM2B_ATTEST, whose TPMS_ATTEST is behind its first 2 bytes")
 	ErrNoCommand   = errors.New("no command has this number")
 	ErrNoBank      = errors.New("no bank has this hash")
 	ErrRequirement = errors.New("what is required is no TPML_PCR_SELECTION")

@@ -3,15 +3,19 @@ package vinjakwe
 import (
 	"bytes"
 	"encoding/hex"
+	"encoding/json"
 	"errors"
 	"fmt"
 	"os"
 	"path/filepath"
+	"reflect"
 	"strings"
 	"testing"
 )
 
 const checks = "../../checks/"
+
+var hashes = [...]Hash{SHA1, SHA256, SHA384}
 
 func read(t *testing.T, name string) []byte {
 	t.Helper()
@@ -253,6 +257,148 @@ func TestEachQuoteMatchesItsLog(t *testing.T) {
 		}
 		if _, err := CheckQuote(it.log, it.quote, it.hash); !errors.Is(err, ErrAttest) {
 			t.Error(err)
+		}
+	}
+}
+
+func TestAnotherSignerAndASizeBeforeAQuote(t *testing.T) {
+	for _, it := range quotes(t) {
+		signed, err := DecodeAttest(it.quote)
+		if err != nil {
+			t.Fatal(err)
+		}
+		expected := Expected{Nonce: it.nonce, AnySelection: true, Signer: signed.Signer, Hash: it.hash}
+		if verdict, _, err := Check(it.log, it.quote, expected); verdict != Matches || err != nil {
+			t.Errorf("%v %v", verdict, err)
+		}
+		expected.Signer = signed.Signer[1:]
+		if verdict, _, err := Check(it.log, it.quote, expected); verdict != Signer || err != nil {
+			t.Errorf("%v %v", verdict, err)
+		}
+		sized := append([]byte{0, byte(len(it.quote))}, it.quote...)
+		if _, err := DecodeAttest(sized); err != ErrSized {
+			t.Error(err)
+		}
+		if _, _, err := Check(it.log, sized, expected); err != ErrSized {
+			t.Error(err)
+		}
+		sized[1] ^= 1
+		if _, err := DecodeAttest(sized); !errors.As(err, new(*Refusal)) {
+			t.Error(err)
+		}
+	}
+}
+
+func TestWhatIsVouchedOfEachRecord(t *testing.T) {
+	for _, it := range quotes(t) {
+		attest, err := DecodeAttest(it.quote)
+		if err != nil {
+			t.Fatal(err)
+		}
+		for events := NewEvents(it.log); events.Next(); {
+			event, wanted := events.Event(), map[Hash]Part{}
+			for hash, part := range event.Measured() {
+				for _, entry := range attest.Selections {
+					if entry.Bank == hash && entry.Has(event.Register) && event.Type != 3 {
+						wanted[hash] = part
+					}
+				}
+			}
+			if found := event.Vouched(attest); !reflect.DeepEqual(found, wanted) {
+				t.Errorf("%v in place of %v", found, wanted)
+			}
+		}
+	}
+}
+
+func TestAListOfDigests(t *testing.T) {
+	it := quotes(t)[0]
+	var lines []string
+	var first Event
+	for events := NewEvents(it.log); events.Next(); {
+		event := events.Event()
+		if event.Type == 3 || event.Register > 7 {
+			continue
+		}
+		if len(lines) == 0 {
+			first = event
+		}
+		lines = append(lines, fmt.Sprintf("sha256 %d %x words # a comment", event.Register, event.Digest(SHA256)))
+	}
+	expected := Expected{Nonce: it.nonce, AnySelection: true, Hash: it.hash}
+	for text, wanted := range map[string]Verdict{
+		"# a boot\n\n" + strings.Join(lines, "\n"): Matches,
+		strings.ReplaceAll(strings.Join(lines, "\n"), fmt.Sprintf("%x", first.Digest(SHA256)), strings.Repeat("00", 32)): Unknown,
+		"sha256 9 " + strings.Repeat("00", 32): Lacks,
+	} {
+		var err error
+		if expected.Allow, err = ParseAllowed(text); err != nil {
+			t.Fatal(err)
+		}
+		verdict, place, err := Check(it.log, it.quote, expected)
+		if verdict != wanted || err != nil || verdict == Unknown && place != (Selected{SHA256, first.Register, first.At}) {
+			t.Errorf("%v %v %v", verdict, place, err)
+		}
+	}
+	zeros := strings.Repeat("00", 32)
+	for _, line := range []string{"sha256 4", "md5 4 00", "sha256 24 " + zeros, "sha256 4 " + zeros[1:] + "g"} {
+		if _, err := ParseAllowed(line); err == nil {
+			t.Error(line)
+		}
+	}
+}
+
+func TestSignaturesByTheirParts(t *testing.T) {
+	for _, scheme := range []uint16{RSASSA, RSAPSS} {
+		it, err := DecodeSignature(append([]byte{0, byte(scheme), 0, 0xb, 0, 3}, "sig"...))
+		if err != nil || it.Scheme != scheme || it.Hash != SHA256 || string(it.Sig) != "sig" || it.R.Sign() != 0 {
+			t.Errorf("%v %v", it, err)
+		}
+	}
+	ecdsa := []byte{0, 0x18, 0, 4, 0, 2, 1, 2, 0, 1, 3}
+	it, err := DecodeSignature(ecdsa)
+	if err != nil || it.Scheme != ECDSA || it.Hash != SHA1 || it.R.Int64() != 258 || it.S.Int64() != 3 {
+		t.Errorf("%v %v", it, err)
+	}
+	var refusal *Refusal
+	if _, err := DecodeSignature(ecdsa[:10]); !errors.As(err, &refusal) || *refusal != (Refusal{0x9a, 10}) {
+		t.Error(err)
+	}
+}
+
+func TestNamesOfCodes(t *testing.T) {
+	for code, name := range map[uint32]string{
+		0: "TPM_RC_SUCCESS", 0x921: "TPM_RC_LOCKOUT", 0x9a2: "TPM_RC_BAD_AUTH for session 1",
+		0xfe1: "TPM_RC_RESERVED_BITS for parameter 15", 0x184: "TPM_RC_VALUE for handle 1", 0x1084: "0x1084",
+	} {
+		if found := CodeName(code); found != name {
+			t.Errorf("%#x is %s", code, found)
+		}
+	}
+}
+
+// The lists beside the logs have of each record what each digest is of.
+func TestWhatWasMeasuredOfEachLogWithAList(t *testing.T) {
+	lists, _ := filepath.Glob(checks + "logs/*.json")
+	for _, list := range lists {
+		name := "logs/" + strings.TrimSuffix(filepath.Base(list), ".json")
+		events := NewEvents(read(t, name+".log"))
+		for _, line := range strings.Split(strings.TrimSpace(string(read(t, name+".json"))), "\n") {
+			var told struct{ Measured map[string]string }
+			if err := json.Unmarshal([]byte(line), &told); err != nil {
+				t.Fatal(err)
+			}
+			if told.Measured == nil {
+				continue
+			}
+			events.Next()
+			found := map[string]string{}
+			for hash, part := range events.Event().Measured() {
+				found[hash.String()] = part.String()
+			}
+			if !reflect.DeepEqual(found, told.Measured) {
+				t.Errorf("%s: %v in place of %v", name, found, told.Measured)
+			}
 		}
 	}
 }

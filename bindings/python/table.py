@@ -174,6 +174,8 @@ class Answers:
             yield "given up" if self.caller.give_up(unhex(*words)) else "not given up"
         elif verb == "zeros":
             yield from self.zeros(*words)
+        elif verb == "code":
+            yield vinjakwe.code_name(int(*words, 16))
 
 
 def told(ask, *words):

@@ -543,6 +543,34 @@ def boot_variables():
     return log
 
 
+def facts():
+    """What a boot tells: a locality, separators, versions, texts of loaders, values of one byte and of none, further
+    paths of load options, what old shims have behind an image's path, and authorities."""
+    log = Log([0x000B]).locality(3)
+    for version in (uuid.UUID("12345678-9abc-def0-1122-334455667788").bytes_le, "BIOS 1.0".encode("utf-16-le")):
+        log.record(0, CRTM_VERSION, version)
+    for number in (0, 1, 0xFFFFFFFF, 0x12345678):
+        log.record(7, SEPARATOR, struct.pack("<I", number))
+    for text in ("a\tb\r\nc\n", "ro quiet", "loader.conf\0", "Schl\u00fcssel", "\x1b[2J"):
+        log.record(8, IPL, text.encode()).record(8, IPL, text.encode("utf-16-le") + bytes(4))
+    for name, value in (("SecureBoot", b"\1"), ("SecureBoot", b"\0"), ("SecureBoot", b""), ("SetupMode", b"\xff")):
+        log.record(7, VARIABLE, efi_variable(GLOBAL, name, value))
+    shim = uuid.UUID("605dab50-e046-4300-abb6-3dd810dd8b23").bytes_le
+    of_owner = bytes(range(16)) + b"a certificate"
+    for guid, name, value in ((DATABASE, "db", of_owner), (DATABASE, "dbx", bytes(16)), (DATABASE, "db", bytes(15)),
+                              (DATABASE, "db", b"\1"), (DATABASE, "other", of_owner), (GLOBAL, "KEK", of_owner),
+                              (shim, "MokList", of_owner), (shim, "MokListRT", of_owner), (shim, "Shim", of_owner)):
+        log.record(7, AUTHORITY, efi_variable(guid, name, value))
+    boot = file("\\EFI\\BOOT\\BOOTX64.EFI") + END
+    head = struct.pack("<IH", 1, 0)[:4]
+    for paths in (boot * 2, boot + pci(2, 0) + END + END, boot + pci(2, 0), boot + b"\0"):
+        option = head + struct.pack("<H", len(paths)) + "several\0".encode("utf-16-le") + paths + b"own"
+        log.record(1, VARIABLE_BOOT, efi_variable(GLOBAL, "Boot0001", option))
+    for rest in (bytes(8), b"\x7f\xff\4\0\0\0\0\0\1"):
+        log.record(4, SERVICES, loaded(boot) + rest, b"the image")
+    return log
+
+
 def accepted():
     worked().write("worked")
     Log(THREE).write("header_alone")
@@ -587,6 +615,7 @@ def accepted():
     partitions().write("partitions")
     devices().write("devices")
     boot_variables().write("boot_variables")
+    facts().write("facts")
 
     # SHA-512 alone: no bank is extended
     Log([0x000D]).record(0, SEPARATOR, bytes(4)).write("no_bank")
@@ -641,6 +670,7 @@ def faults():
 DRIVER_CONFIG, ACTION, AUTHORITY = 0x80000001, 0x80000007, 0x800000E0
 GLOBAL = uuid.UUID("8be4df61-93ca-11d2-aa0d-00e098032b8c").bytes_le
 DATABASE = uuid.UUID("d719b2cb-3d3a-4596-a3bc-dad00e67656f").bytes_le
+DEVICES = uuid.UUID("b9c2b4f4-bf5f-462d-8adf-c5c70ac35dad").bytes_le
 
 
 def efi_variable(guid, name, value):
@@ -771,11 +801,13 @@ class Boot(Log):
 def boots():
     Boot(THREE).keys().part().authority("db").authority("Shim", byte_more=True).told("secure_on", "on")
     Boot().keys(switch=b"\0").part(b"\xff" * 4).told("secure_off", "off")
-    Boot().part().told("secure_unset", "unset")
+    Boot().keys(switch=b"").part().told("secure_unset", "unset")
     protection = Boot().record(7, ACTION, b"DMA Protection Disabled").keys().part().authority("db")
     protection.lines.insert(0, "dma-protection disabled\n")
     protection.members["dma_protection_disabled"] = True
     protection.told("secure_unprotected", "on")
+    policy = efi_variable(DEVICES, "devdb", signatures(TYPES["EFI_CERT_X509_GUID"], b"a device's maker"))
+    Boot().keys().record(7, POLICY, policy).part().authority("db").told("secure_device_policy", "on")
 
     # Certificates have lists of their own, and hashes one.
     key, hashes = TYPES["EFI_CERT_X509_GUID"], TYPES["EFI_CERT_SHA256_GUID"]
@@ -826,6 +858,12 @@ def boots():
     fault("no_separator", "NoSeparator", Boot().keys(), lambda b: None)
     fault("no_key", "NoKey", Boot().keys(db=b""), lambda b: b.part().authority("db"))
     fault("no_authority", "NoAuthority", Boot().keys().part(), lambda b: None)
+    fault("no_secure_boot", "NoSecureBoot", Boot().part(b"\xff" * 4), lambda b: None)
+    policy = efi_variable(DEVICES, "devdb", b"lists")
+    fault("policy_behind", "Late", Boot().keys().part(), lambda b: b.record(7, POLICY, policy))
+    fault("policy_no_variable", "NoVariable", Boot().keys(), lambda b: b.record(7, POLICY, policy + b"\0").part())
+    switch = efi_variable(GLOBAL, "SecureBoot", b"\1")
+    fault("policy_twice", "Twice", Boot().keys(), lambda b: b.record(7, POLICY, switch).part().authority("db"))
 
 
 if __name__ == "__main__":

@@ -1,8 +1,9 @@
 #!/usr/bin/env python3
 """told.py FILE NONCE SELECTION QUOTE [VERDICTS]: what `tpmtool check LOG --attest FILE --json` writes, by its verdicts.
 
-With a file of the verdicts on Secure Boot, as `check LOG --secure-boot --json` writes them, those that are told of the
-banks whose register 7 is selected come behind.
+The nonce and the selection may be `any`: they are not compared, as it was asked for. With a file of the verdicts on
+Secure Boot, as `check LOG --secure-boot --json` writes them, those that are told of the banks whose register 7 is
+selected come behind a quote that is the one asked for.
 
 The TPMS_ATTEST (TPM 2.0, Part 2, 10.12) is read by Python's struct, and no value from the program.
 """
@@ -53,14 +54,14 @@ def told_of_boot(selections, path):
 
 def main(path, nonce, covered, quote, verdicts=None):
     with open(path, "rb") as file:
-        told = {"attest": attest(file.read()), "nonce": nonce}
+        told = {"attest": attest(file.read()), "nonce": nonce.replace("any", "not compared")}
     words = covered.split()
-    told["selection"] = words[0] if words[0] == "lacks" else covered
+    told["selection"] = words[0] if words[0] == "lacks" else covered.replace("any", "not compared")
     if words[0] == "lacks":
         told["lacks"] = {"bank": words[1], "register": int(words[2])}
     told["quote"] = quote
-    boots = told_of_boot(told["attest"]["selection"], verdicts) if verdicts else []
-    right = nonce != "differs" and covered in ("covers", "not compared") and quote == "matches"
+    right = nonce in ("matches", "any") and covered in ("covers", "any") and quote == "matches"
+    boots = told_of_boot(told["attest"]["selection"], verdicts) if verdicts and right else []
     right = right and all(boot["secure_boot"] == "on" for boot in boots)
     for line in [told, *boots, {"ok": right}]:
         print(json.dumps(line, separators=(",", ":")))

@@ -8,7 +8,6 @@ import (
 	"errors"
 	"fmt"
 	"os"
-	"sort"
 	"strconv"
 	"strings"
 	"unicode/utf16"
@@ -253,13 +252,9 @@ func main() {
 			copy(zeros, unhex(words[2]))
 			command(zeros)
 			registers(vinjakwe.Replay(zeros))
-		case "codes":
-			all := []string{}
-			for code := uint32(0); code < 0x1000; code++ {
-				all = append(all, fmt.Sprintf("%03x %s", code, vinjakwe.CodeName(code)))
-			}
-			sort.Strings(all)
-			fmt.Fprintln(out, strings.Join(all, "\n"))
+		case "code":
+			code, _ := strconv.ParseUint(words[1], 16, 32)
+			fmt.Fprintln(out, vinjakwe.CodeName(uint32(code)))
 		}
 	}
 }

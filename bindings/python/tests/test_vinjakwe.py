@@ -114,6 +114,26 @@ class Texts(unittest.TestCase):
             self.assertIsNone(v.event_type_name(kind))
 
 
+def objects():
+    """Of each log with a list of objects what `events --json` prints of its records."""
+    for path in sorted((CHECKS / "logs").glob("*.json")):
+        yield path.with_suffix(".log"), [json.loads(line) for line in path.read_text().splitlines()]
+
+
+class Measured(unittest.TestCase):
+    def test_each_log_with_a_list_of_objects(self):
+        for path, told in objects():
+            found = [v.measured(it) for it in v.events(path)]
+            self.assertEqual(found, [it["measured"] for it in told if "measured" in it], path)
+
+    def test_a_text_behind_a_prefix(self):
+        data = b"kernel_cmdline: quiet"
+        digests = {name: hashlib.new(name, b"quiet").digest() for name in v.HASHES}
+        event = v.Event(1, 0, 8, 0xD, {**digests, 0x12: bytes(32)}, data, ())
+        self.assertEqual(v.measured(event), dict.fromkeys(v.HASHES, "text"))
+        self.assertEqual(v.measured(event._replace(type=5)), dict.fromkeys(v.HASHES, "other"))
+
+
 def boots():
     """What the lists beside the logs say of Secure Boot: of each bank its state or fault, and its lines by name and
     place."""
@@ -188,7 +208,7 @@ class Quotes(unittest.TestCase):
     def test_a_register_that_is_not_selected(self):
         for log, quote, nonce, _, hash in quotes():
             verdict = v.check(log, quote, nonce, "sha384:9", hash)
-            self.assertEqual(verdict, (v.Kind.LACKS, "sha384", 9))
+            self.assertEqual(verdict, (v.Kind.LACKS, "sha384", 9, None))
             self.assertFalse(verdict)
 
     def test_nothing_compared_is_no_success(self):
@@ -202,15 +222,81 @@ class Quotes(unittest.TestCase):
         empty = bytes.fromhex("000000000020") + hashlib.sha256().digest()
         self.assertIs(v.check_quote(LOG, empty).kind, v.Kind.EMPTY)
 
+    def test_another_signer(self):
+        for log, quote, nonce, selected, hash in quotes():
+            signer = v.decode_attest(quote).signer
+            self.assertTrue(v.check(log, quote, nonce, selected, hash, signer))
+            self.assertIs(v.check(log, quote, nonce, selected, hash, signer[:-1]).kind, v.Kind.SIGNER)
+
+    def test_what_is_vouched_of_each_record(self):
+        for log, quote, _, selected, _ in quotes():
+            attest, count = v.decode_attest(quote), 0
+            listed = {bank: {int(it) for it in registers.split(",")}
+                      for bank, registers in (entry.split(":") for entry in selected.split("+"))}
+            for event in v.events(log):
+                wanted = {bank: "digest" if part == "other" else part for bank, part in v.measured(event).items()
+                          if event.register in listed.get(bank, ()) and event.type != 3}
+                self.assertEqual(v.vouched(event, attest), wanted)
+                count += len(wanted)
+                self.assertEqual(v.vouched(event._replace(type=3), attest), {})
+            self.assertEqual(count == 0, selected == "sha256:10,11,12")
+
+    def test_a_list_of_digests(self):
+        log, quote, nonce, selected, hash = next(it for it in quotes() if it[3] == "sha256:0,1,2,3,4,5,6,7")
+        found = [(it.register, it.digests["sha256"], it.at) for it in v.events(log) if it.type != 3]
+        lines = [f"sha256 {register} {digest.hex()} words # and a comment" for register, digest, _ in found
+                 if register < 8]
+        allowed = "# a boot\n\n" + "\n".join(lines)
+        self.assertEqual(v.check(log, quote, nonce, selected, hash, allow=allowed), (v.Kind.MATCHES, None, None, None))
+        self.assertTrue(v.check(log, quote, nonce, selected, hash, allow="# none"))
+        for register, digest, at in found[:9]:
+            other = allowed.replace(digest.hex(), bytes(32).hex())
+            verdict = v.check(log, quote, nonce, selected, hash, allow=other)
+            self.assertEqual(verdict, (v.Kind.UNKNOWN, "sha256", register, at))
+        lacking = v.check(log, quote, nonce, selected, hash, allow=f"sha256 9 {bytes(32).hex()}")
+        self.assertEqual(lacking[:3], (v.Kind.LACKS, "sha256", 9))
+        self.assertIs(v.check(log, quote, b"1", selected, hash, allow=other).kind, v.Kind.NONCE)
+        for line in "sha256 4", "md5 4 00", "sha256 24 " + "00" * 32, "sha256 4 " + "00" * 31, "sha256 4 " + "0g" * 32:
+            self.assertRaises(ValueError, v.check, log, quote, nonce, selected, hash, allow=line)
+
+    def test_a_size_before_a_quote(self):
+        for log, quote, nonce, selected, hash in quotes():
+            sized = len(quote).to_bytes(2, "big") + quote
+            for call in (lambda: v.decode_attest(sized), lambda: v.check(log, sized, nonce, selected, hash)):
+                with self.assertRaisesRegex(v.SizedAttest, "a size stands before it"):
+                    call()
+            with self.assertRaises(v.Refusal) as caught:
+                v.decode_attest(b"\0\1" + quote)
+            self.assertIs(type(caught.exception), v.Refusal)
+
     def test_a_whole_attest_is_not_a_quotes_information(self):
         for log, quote, _, _, hash in quotes():
             with self.assertRaisesRegex(ValueError, "TPMS_ATTEST"):
                 v.check_quote(log, quote, hash)
 
 
+class Signatures(unittest.TestCase):
+    def test_each_scheme(self):
+        for number, name in (0x14, "rsassa"), (0x16, "rsapss"):
+            spelled = number.to_bytes(2, "big") + bytes.fromhex("000b0003") + b"sig"
+            self.assertEqual(v.decode_signature(spelled), (name, "sha256", b"sig", 0, 0))
+        self.assertEqual(v.decode_signature(bytes.fromhex("00180004 00020102 000103")), ("ecdsa", "sha1", b"", 258, 3))
+
+    def test_what_is_refused(self):
+        greatest = bytes.fromhex("0014000c0200") + bytes(512)
+        self.assertEqual(v.decode_signature(greatest).sig, bytes(512))
+        for text, code, at in (("", 0x9A, 0), ("001a", 0x92, 0), ("00140010", 0x83, 2), ("0014000b0201", 0x95, 4),
+                               ("0014000b000101ff", 0x95, 7), ("0018000b0043", 0x95, 4),
+                               ("0018000b000101000202", 0x9A, 9)):
+            with self.assertRaises(v.Refusal) as caught:
+                v.decode_signature(bytes.fromhex(text))
+            self.assertEqual((caught.exception.code, caught.exception.at), (code, at), text)
+
+
 class Faults(unittest.TestCase):
     def test_faults_are_pickled_and_copied(self):
-        for fault in v.Refusal(0x1C4, 10), v.LogFault(1, 211), v.SecureBootFault(67, 548), v.BrokenStream([b"frame"]):
+        for fault in (v.Refusal(0x1C4, 10), v.SizedAttest(0x84, 0), v.LogFault(1, 211), v.SecureBootFault(67, 548),
+                      v.BrokenStream([b"frame"])):
             for made in pickle.loads(pickle.dumps(fault)), copy.copy(fault):
                 self.assertEqual((type(made), str(made), vars(made)), (type(fault), str(fault), vars(fault)))
 
@@ -219,6 +305,12 @@ class Faults(unittest.TestCase):
             v.decode_command(bytes.fromhex("80010000000c000001440002"))
         self.assertEqual((caught.exception.code, caught.exception.at), (0x1C4, 10))
         self.assertEqual(caught.exception.name, "TPM_RC_VALUE for parameter 1")
+
+    def test_names_of_codes(self):
+        for code, name in ((0, "TPM_RC_SUCCESS"), (0x921, "TPM_RC_LOCKOUT"), (0x9A2, "TPM_RC_BAD_AUTH for session 1"),
+                           (0xFE1, "TPM_RC_RESERVED_BITS for parameter 15"), (0x184, "TPM_RC_VALUE for handle 1"),
+                           (0x1084, "0x1084"), (1 << 32, "0x100000000")):
+            self.assertEqual(v.code_name(code), name)
 
 
 class Policies(unittest.TestCase):

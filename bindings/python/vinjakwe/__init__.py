@@ -10,8 +10,8 @@ from __future__ import annotations
 import ctypes
 import enum
 import os
-import re
 import uuid
+from contextlib import contextmanager
 from ctypes import POINTER, Structure, byref, c_size_t, c_uint8, c_uint16, c_uint32, c_uint64, c_void_p
 from ctypes.util import find_library
 from mmap import mmap
@@ -30,16 +30,19 @@ __all__ = [
     "ANY_NONCE", "ANY_SELECTION", "Attest", "BrokenStream", "BUFFER_BYTES", "Caller", "CODES", "COMMANDS", "Command",
     "Counter", "Device", "Event", "Framer", "HASHES", "Kind", "LibraryError", "LogFault", "NONCE_BYTES", "OWNER_BYTES",
     "Policy", "Refusal", "Registers", "Response", "SecureBoot", "SecureBootFault", "SecureBootState", "Session",
-    "Variable", "Verdict", "build_command", "changes_nv", "check", "check_quote", "code_name", "decode_attest",
-    "decode_command", "decode_response", "event_type_name", "events", "replay", "secure_boot", "selection", "text",
-    "variable",
+    "Signature", "SizedAttest", "Variable", "Verdict", "build_command", "changes_nv", "check", "check_quote",
+    "code_name", "decode_attest", "decode_command", "decode_response", "decode_signature", "event_type_name", "events",
+    "measured", "replay", "secure_boot", "selection", "text", "variable", "vouched",
 ]
 __version__ = "0.1.0"
 
 # As in vinjakwe.h, with which a test compares them.
 BUFFER_BYTES, OWNER_BYTES, NONCE_BYTES = 4096, 48, 64
-REGISTERS_BYTES, DEVICE_KEPT_BYTES, EVENT_TYPE_BYTES = 2400, 1026, 32
+REGISTERS_BYTES, DEVICE_KEPT_BYTES, SELECTION_BYTES = 2400, 1026, 22
+EVENT_TYPE_BYTES, CODE_NAME_BYTES, LOG_NAME_BYTES = 32, 37, 18
 HASHES = {"sha1": 0x0004, "sha256": 0x000B, "sha384": 0x000C}
+SCHEMES = {"rsassa": 0x0014, "rsapss": 0x0016, "ecdsa": 0x0018}
+MEASURED = {"data": 36, "variable": 37, "text": 38, "cut": 39, "other": 40}
 COMMANDS = {
     "NV_UndefineSpace": 0x122, "NV_DefineSpace": 0x12A, "NV_Increment": 0x134, "PCR_Event": 0x13C, "PCR_Reset": 0x13D,
     "Startup": 0x144, "NV_Read": 0x14E, "FlushContext": 0x165, "NV_ReadPublic": 0x169, "PolicyAuthValue": 0x16B,
@@ -55,21 +58,17 @@ CODES = {
     "SYMMETRIC": 0x096, "INSUFFICIENT": 0x09A, "POLICY_FAIL": 0x09D, "INTEGRITY": 0x09F, "RESERVED_BITS": 0x0A1,
     "BAD_AUTH": 0x0A2, "POLICY_CC": 0x0A4,
 }
-LOG_FAULTS = ("DONE", "TRUNCATED", "TOO_LONG", "NOT_CRYPTO_AGILE", "BAD_HEADER", "DUPLICATE_ALGORITHM",
-              "WRONG_DIGEST_SIZE", "UNKNOWN_ALGORITHM", "REPEATED_DIGEST", "BAD_REGISTER", "BAD_LOCALITY",
-              "LATE_LOCALITY")
-SECURE_BOOT_FAULTS = ("NOT_MEASURED", "OTHER_TYPE", "NO_VARIABLE", "TWICE", "OTHER_VALUE", "DEBUGGER", "BAD_SEPARATOR",
-                      "NO_SEPARATOR", "LATE", "NO_KEY", "NO_AUTHORITY")
 _DONE, _REFUSED, _NO_ROOM, _NO_COMMAND = range(4)
 _FRAMER_MORE, _FRAMER_READY, _FRAMER_BROKEN = range(3)
 _EVENT, _VARIABLE, _TEXT, _TEXT_UTF16, _CALLER_OPENED = 32, 33, 34, 35, 0
-_ATTEST_REFUSED, _ATTEST_NO_BANK, _ATTEST_REQUIREMENT = 17, 18, 22
+_LOG_DONE, _ATTEST_DIFFERS, _ATTEST_REFUSED, _ATTEST_NO_BANK, _ATTEST_REQUIREMENT = 0, 16, 17, 18, 22
 _POLICY_NO_DIGEST = 5
 _SECURE_BOOT_NO_ROOM, _SECURE_BOOT_NOT_MEASURED = 51, 64
 _DIGESTS = {"sha1": (0, 20), "sha256": (480, 32), "sha384": (1248, 48)}
 _COMMAND_NAMES = {number: name for name, number in COMMANDS.items()}
-_CODE_NAMES = {number: name for name, number in CODES.items()}
 _HASH_NAMES = {number: name for name, number in HASHES.items()}
+_SCHEME_NAMES = {number: name for name, number in SCHEMES.items()}
+_MEASURED_NAMES = {number: name for name, number in MEASURED.items()}
 
 
 class LibraryError(ImportError):
@@ -79,13 +78,15 @@ class LibraryError(ImportError):
 def code_name(code: int) -> str:
     """The name of a response code in Part 2, 6.6.3, with the handle, session or parameter that it tells, or its
     number."""
-    if not code & 0x80:
-        return "TPM_RC_" + _CODE_NAMES[code] if code in _CODE_NAMES else f"{code:#x}"
-    base, number = code & 0xBF, code >> 8 & 15
-    if code >> 12 or base not in _CODE_NAMES:
-        return f"{code:#x}"
-    what = ("parameter", number) if code & 0x40 else ("session", number & 7) if number & 8 else ("handle", number)
-    return "TPM_RC_" + _CODE_NAMES[base] + (f" for {what[0]} {what[1]}" if what[1] else "")
+    out = (c_uint8 * CODE_NAME_BYTES)()
+    size = _library.tpm_code_name(code, out, CODE_NAME_BYTES) if 0 <= code < 1 << 32 else 0
+    return bytes(out[:size]).decode("ascii") or f"{code:#x}"
+
+
+def _answer_name(answer: int) -> str:
+    """The name of what a call on a log answered, as `Truncated` or `NotMeasured`."""
+    out = (c_uint8 * LOG_NAME_BYTES)()
+    return bytes(out[:_library.tpm_log_answer_name(answer, out, LOG_NAME_BYTES)]).decode("ascii")
 
 
 class Refusal(ValueError):
@@ -99,11 +100,22 @@ class Refusal(ValueError):
         return Refusal, (self.code, self.at)
 
 
+class SizedAttest(Refusal):
+    """The bytes are a TPM2B_ATTEST: a size of 2 bytes stands before the TPMS_ATTEST, which is what is signed."""
+
+    def __init__(self, code: int, at: int) -> None:
+        super().__init__(code, at)
+        self.args = ("a size stands before it: this is a TPM2B_ATTEST, whose TPMS_ATTEST is behind its first 2 bytes",)
+
+    def __reduce__(self) -> tuple[type[Refusal], tuple[int, int]]:
+        return SizedAttest, (self.code, self.at)
+
+
 class LogFault(ValueError):
     """The log is none: the kind of its first fault, as `Truncated`, and how many bytes are before it."""
 
     def __init__(self, kind: int, at: int) -> None:
-        self.kind, self.at = "".join(word.capitalize() for word in LOG_FAULTS[kind].split("_")), at
+        self.kind, self.at = _answer_name(kind), at
         super().__init__(f"log {self.kind} at {at}")
         self._number = kind
 
@@ -117,8 +129,7 @@ class SecureBootFault(ValueError):
     end."""
 
     def __init__(self, kind: int, at: int) -> None:
-        name = SECURE_BOOT_FAULTS[kind - _SECURE_BOOT_NOT_MEASURED]
-        self.kind, self.at = "".join(word.capitalize() for word in name.split("_")), at
+        self.kind, self.at = _answer_name(kind), at
         super().__init__(f"secure boot unknown {self.kind} at {at}")
         self._number = kind
 
@@ -192,6 +203,10 @@ class _Attest(Structure):
                 ("digest", _Part)]
 
 
+class _Signature(Structure):
+    _fields_ = [("scheme", c_uint16), ("hash", c_uint16), ("sig", _Part), ("r", _Part), ("s", _Part)]
+
+
 class _AttestFault(Structure):
     _fields_ = [("code", c_uint32), ("at", c_uint32), ("hash", c_uint16), ("pcr", c_uint32)]
 
@@ -254,6 +269,11 @@ def _load() -> tuple[ctypes.PyDLL, ctypes.CDLL]:
         ("log_check_quote", number, [p, size, p, size, c_uint16, count]),
         ("log_check_attest", number, [p, size, p, size, c_uint16, p, size, p, size, POINTER(_AttestFault)]),
         ("attest_decode", number, [p, size, POINTER(_Attest), refusal]),
+        ("signature_decode", number, [p, size, POINTER(_Signature), refusal]),
+        ("code_name", size, [number, p, size]), ("log_answer_name", size, [number, p, size]),
+        ("selection", size, [p, size, p, size]),
+        ("log_measured", number, [number, p, size, c_uint16, p, size]),
+        ("log_vouched", number, [p, size, number, number, p, size, c_uint16, p, size]),
         ("caller_init", None, [p]), ("caller_start", number, [p, p, size, p, size, p, size]),
         ("caller_seal", size, [p, p, size, p, size, p, size, p, size, p, size, number, p, size]),
         ("caller_open", number, [p, p, size]), ("caller_give_up", number, [p, p, size]),
@@ -321,7 +341,7 @@ def _judge(call: Callable[..., int], *words: Any) -> None:
 
 def _raise_fault(answer: int, at: int, code: int = 0) -> None:
     """Raises the fault of a log or of a quote beside it, if this answer is one."""
-    if 0 < answer < len(LOG_FAULTS):
+    if _LOG_DONE < answer < _ATTEST_DIFFERS:
         raise LogFault(answer, at)
     if answer == _ATTEST_REFUSED:
         raise Refusal(code, at)
@@ -531,6 +551,14 @@ def text(event: Event) -> str | None:
         return _part(data, view).decode(*("ascii",) if said == _TEXT else ("utf-16-le", "surrogatepass"))
 
 
+def measured(event: Event) -> dict[str, str]:
+    """Which part of a record's data its digest of each bank is of: `data`, all of them; `variable`, the value of the
+    variable that they are; `text`, what stands behind a prefix that GRUB writes, as `kernel_cmdline: `; `cut`, all but
+    the last byte; or `other`: something else was measured than what the log says."""
+    return {name: _MEASURED_NAMES[_lend(_library.tpm_log_measured, event.type, (event.data,), HASHES[name], (digest,))]
+            for name, digest in event.digests.items() if isinstance(name, str)}
+
+
 class Variable(NamedTuple):
     """A variable of the firmware: its vendor, its name and its value. Units of the name that are no UTF-16 stay as they
     are."""
@@ -600,22 +628,13 @@ def secure_boot(log: Log, bank: str = "sha256") -> SecureBoot:
 _GENERATED = b"\xffTCG"
 
 
-_REGISTER = re.compile("0*(1[0-9]|2[0-3]|[0-9])")
-
-
 def selection(text: str) -> bytes:
     """The TPML_PCR_SELECTION of registers as tpm2-tools list them: `sha1:7+sha256:0,1,2`, or `sha256:all`. Raises
     ValueError."""
-    bits = dict.fromkeys(HASHES, 0)
-    for part in text.split("+"):
-        name, _, listed = part.partition(":")
-        numbers = [it[1] if it else None for it in map(_REGISTER.fullmatch, listed.split(","))]
-        if name not in HASHES or listed != "all" and None in numbers:
-            raise ValueError(f"{part!r} is no list of registers, as sha256:0,1,2 or sha256:all")
-        for pcr in range(24) if listed == "all" else (int(it) for it in numbers if it):
-            bits[name] |= 1 << pcr
-    return len(HASHES).to_bytes(4, "big") + b"".join(
-        number.to_bytes(2, "big") + b"\3" + bits[name].to_bytes(3, "little") for name, number in HASHES.items())
+    out = (c_uint8 * SELECTION_BYTES)()
+    if not _lend(_library.tpm_selection, (text.encode(),), out, SELECTION_BYTES):
+        raise ValueError(f"{text!r} is no list of registers, as sha256:0,1,2 or sha256:all")
+    return bytes(out)
 
 
 def _selected(list: Selected) -> Buffer:
@@ -650,27 +669,77 @@ class Attest(NamedTuple):
 
 
 def decode_attest(data: Buffer) -> Attest:
-    """The quote as it was signed that all the bytes spell. Raises Refusal."""
+    """The quote as it was signed that all the bytes spell. Raises Refusal, and of a TPM2B_ATTEST SizedAttest."""
     it = _Attest()
-    _judge(_library.tpm_attest_decode, (data,), byref(it))
+    with _named(data):
+        _judge(_library.tpm_attest_decode, (data,), byref(it))
     with memoryview(data).cast("B") as view:
         info = bytes(view[it.selections.at:])
         return Attest(_part(view, it.signer), _part(view, it.nonce), it.clock, it.reset_count, it.restart_count,
                       it.safe != 0, it.firmware_version, _entries(info), info)
 
 
+@contextmanager
+def _named(attest: Buffer) -> Iterator[None]:
+    """A refusal of these bytes is a SizedAttest, if they begin with the size of a TPMS_ATTEST and that."""
+    try:
+        yield
+    except Refusal as refusal:
+        with memoryview(attest).cast("B") as view:
+            if view[2:6] == _GENERATED and int.from_bytes(view[:2], "big") == len(view) - 2:
+                raise SizedAttest(refusal.code, refusal.at) from None
+        raise
+
+
+def vouched(event: Event, attest: Attest) -> dict[str, str]:
+    """What a quote vouches for in a record of a log that `check` has compared with it: of each bank in which it selects
+    the record's register the part of the data that this bank's digest is of, as `measured` tells it, or `digest`, the
+    digest alone and nothing of the data. It never vouches for the type, and for nothing of a record of EV_NO_ACTION or
+    of another register."""
+    selections = attest.info[:4 + 6 * len(attest.selections)]
+    found = {name: _lend(_library.tpm_log_vouched, (selections,), event.register, event.type, (event.data,),
+                         HASHES[name], (digest,))
+             for name, digest in event.digests.items() if isinstance(name, str)}
+    return {name: "digest" if part == MEASURED["other"] else _MEASURED_NAMES[part]
+            for name, part in found.items() if part}
+
+
+class Signature(NamedTuple):
+    """The signature of a quote: its scheme, as `rsassa`, `rsapss` or `ecdsa`, and its hash; the bytes of one by an RSA
+    key; the numbers of one by a key on a curve."""
+
+    scheme: str
+    hash: str
+    sig: bytes
+    r: int
+    s: int
+
+
+def decode_signature(data: Buffer) -> Signature:
+    """The signature that all the bytes spell, a TPMT_SIGNATURE, as `tpm2_quote -s` writes it without `-f plain`. Raises
+    Refusal. Whether it is right is for another library."""
+    it = _Signature()
+    _judge(_library.tpm_signature_decode, (data,), byref(it))
+    with memoryview(data).cast("B") as view:
+        r, s = (int.from_bytes(_part(view, part), "big") for part in (it.r, it.s))
+        return Signature(_SCHEME_NAMES[it.scheme], _HASH_NAMES[it.hash], _part(view, it.sig), r, s)
+
+
 class Kind(enum.Enum):
     MATCHES, DIFFERS, NONCE, LACKS, EMPTY = 0, 16, 19, 20, 21
+    SIGNER, UNKNOWN = -1, -2
 
 
 class Verdict(NamedTuple):
-    """What is said of a quote: it matches, or the first that fails: another nonce, a required register that is not
-    selected (its bank and number are there), another digest, or no register is selected. It is true where the quote
-    matches."""
+    """What is said of a quote: it matches, or the first that fails: another signer, another nonce, a required register
+    that is not selected (its bank and number are there), another digest, no register is selected, or a digest isn't on
+    the list of those that are allowed (its bank and register are there, and how many bytes of the log precede its
+    record). It is true where the quote matches."""
 
     kind: Kind
     hash: str | None = None
     pcr: int | None = None
+    at: int | None = None
 
     def __bool__(self) -> bool:
         return self.kind is Kind.MATCHES
@@ -704,13 +773,17 @@ ANY_SELECTION: Final = _Unasked.SELECTION
 
 
 def check(log: Log, attest: Buffer, nonce: Buffer | Literal[_Unasked.NONCE],
-          require: Selected | Literal[_Unasked.SELECTION], hash: str = "sha256") -> Verdict:
+          require: Selected | Literal[_Unasked.SELECTION], hash: str = "sha256",
+          signer: Buffer | None = None, allow: str | None = None) -> Verdict:
     """Compares a log with a TPMS_ATTEST of a quote, whose signature has to be verified elsewhere: its nonce, the
     registers that are required, and the digest under this hash. The log is given by its bytes, its path, or a file that
     is read to its end; `nonce` is the one that was sent, or ANY_NONCE; `require` is a TPML_PCR_SELECTION, a list as
-    `sha256:0,7`, or ANY_SELECTION. Raises LogFault, and Refusal for bytes that spell no quote; ValueError where
-    `require` is no selection or has no register, or the nonce has no byte."""
+    `sha256:0,7`, or ANY_SELECTION; `signer` is the qualified Name of the key, where it is to be compared; `allow` is a
+    list of digests, as the lines of `tpmtool check LOG --extends`: the quote has to select each register that it names,
+    and each digest of the log there has to be on it. Raises LogFault, and Refusal for bytes that spell no quote;
+    ValueError where `require` is no selection or has no register, the nonce has no byte, or `allow` is no list."""
     fault, whole = _AttestFault(), _whole(log)
+    allowed = {} if allow is None else _allowed(allow)
     listed = b"" if require is ANY_SELECTION else _selected(require)
     sent = _nonce_of(attest) if nonce is ANY_NONCE else nonce
     answer = _lend_long("tpm_log_check_attest", (whole,), (attest,), _hash(hash), (sent,), (listed,), byref(fault))
@@ -720,9 +793,39 @@ def check(log: Log, attest: Buffer, nonce: Buffer | Literal[_Unasked.NONCE],
         raise ValueError("nonce: it has no byte; ANY_NONCE is for a quote with any")
     if require is not ANY_SELECTION and not _selects(listed):
         raise ValueError("require: it has no register; ANY_SELECTION is for a quote of any")
-    _raise_fault(answer, fault.at, fault.code)
+    with _named(attest):
+        _raise_fault(answer, fault.at, fault.code)
+    if signer is not None and decode_attest(attest).signer != bytes(signer):
+        return Verdict(Kind.SIGNER)
     lacks = Kind(answer) is Kind.LACKS
-    return Verdict(Kind(answer), _HASH_NAMES[fault.hash] if lacks else None, fault.pcr if lacks else None)
+    verdict = Verdict(Kind(answer), _HASH_NAMES[fault.hash] if lacks else None, fault.pcr if lacks else None)
+    return _compared(whole, attest, allowed) if verdict else verdict
+
+
+def _allowed(text: str) -> dict[tuple[str, int], set[bytes]]:
+    """The digests of each register of a list: of a line its bank, its register and the digest, and behind these and
+    behind `#` any words."""
+    found: dict[tuple[str, int], set[bytes]] = {}
+    for number, line in enumerate(text.splitlines(), 1):
+        words = line.partition("#")[0].split()
+        if words and (len(words) < 3 or words[0] not in HASHES or not words[1].isdecimal() or int(words[1]) > 23
+                      or len(words[2]) != 2 * _DIGESTS[words[0]][1]):
+            raise ValueError(f"allow: line {number} is no bank, register and digest, as sha256 4 DIGEST")
+        if words:
+            found.setdefault((words[0], int(words[1])), set()).add(bytes.fromhex(words[2]))
+    return found
+
+
+def _compared(log: Buffer, attest: Buffer, allowed: dict[tuple[str, int], set[bytes]]) -> Verdict:
+    """Whether the quote selects each register of the list, and the list has each digest by which the log extends it."""
+    selected = {(bank, pcr) for bank, registers in decode_attest(attest).selections for pcr in registers}
+    for bank, pcr in sorted(allowed.keys() - selected):
+        return Verdict(Kind.LACKS, bank, pcr)
+    for event in events(log):
+        for name, digest in event.digests.items():
+            if event.type != 3 and digest not in allowed.get((str(name), event.register), (digest,)):
+                return Verdict(Kind.UNKNOWN, str(name), event.register, event.at)
+    return Verdict(Kind.MATCHES)
 
 
 def _nonce_of(attest: Buffer) -> bytes:

@@ -24,6 +24,7 @@ fn main() {
     tell!(tpm_variable, guid, name, value);
     tell!(tpm_secure_boot, dma_protection_disabled, pk, kek, db, dbx);
     tell!(tpm_attest, signer, nonce, clock, reset_count, restart_count, safe, firmware_version, selections, digest);
+    tell!(tpm_signature, scheme, hash, sig, r, s);
     tell!(tpm_attest_fault, code, at, hash, pcr);
     tell!(tpm_policy, hash, digest);
     tell!(tpm_counter, index, hash, attributes, value, policy_len, policy, has_auth);

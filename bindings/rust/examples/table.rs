@@ -172,7 +172,8 @@ fn attest(out: &mut impl Write, words: &[&str]) -> std::io::Result<()> {
     let (nonce, required) = (unhex(words[3].trim_start_matches("any")), unhex(words[4].trim_start_matches("any")));
     let nonce = if words[3] == "any" { Nonce::Any } else { Nonce::Is(&nonce) };
     let required = if words[4] == "any" { Required::Any } else { Required::Registers(&required) };
-    match check(&std::fs::read(words[1])?, &unhex(words[2]), nonce, required, bank(words[5])) {
+    let expected = Expected::new(nonce, required, bank(words[5]));
+    match check(&std::fs::read(words[1])?, &unhex(words[2]), &expected) {
         Ok(verdict) => writeln!(out, "{verdict}"),
         Err(Fault::Nothing) => writeln!(out, "nothing to compare"),
         Err(Fault::Requirement(_)) => writeln!(out, "requirement refused"),
@@ -257,6 +258,10 @@ fn main() -> std::io::Result<()> {
                     group[8..].copy_from_slice(&number.to_be_bytes());
                 }
                 writeln!(out, "{}", hex(device.as_mut().unwrap().execute(&unhex(words[1]), &nonce, &mut response)))?;
+            }
+            "code" => {
+                let code = u32::from_str_radix(words[1], 16).unwrap();
+                writeln!(out, "{}", CodeName::of(code).map_or(format!("{code:#x}"), |it| it.to_string()))?;
             }
             "zeros" => {
                 let mut zeros = vec![0; words[1].parse().unwrap()];

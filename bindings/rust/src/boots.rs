@@ -9,7 +9,7 @@ pub enum SecureBootState {
     On,
     /// SecureBoot was 0.
     Off,
-    /// SecureBoot had no byte, or was not measured.
+    /// SecureBoot had no byte.
     Unset,
 }
 
@@ -40,8 +40,8 @@ impl fmt::Display for SecureBootFault {
 }
 
 /// The kinds of these faults, by their numbers in the header from TPM_SECURE_BOOT_NOT_MEASURED on.
-pub const SECURE_BOOT_FAULTS: [&str; 11] = ["NotMeasured", "OtherType", "NoVariable", "Twice", "OtherValue", "Debugger",
-    "BadSeparator", "NoSeparator", "Late", "NoKey", "NoAuthority"];
+pub const SECURE_BOOT_FAULTS: [&str; 12] = ["NotMeasured", "OtherType", "NoVariable", "Twice", "OtherValue", "Debugger",
+    "BadSeparator", "NoSeparator", "Late", "NoKey", "NoAuthority", "NoSecureBoot"];
 
 /// What a log tells of Secure Boot. A place is how many bytes of the log precede a record.
 #[derive(Clone, Copy, Debug, PartialEq, Eq)]

@@ -3,6 +3,7 @@
 #![no_std]
 #![warn(missing_docs)]
 
+mod allowed;
 mod boots;
 mod buffers;
 #[cfg(feature = "alloc")]
@@ -10,18 +11,21 @@ extern crate alloc;
 #[doc(hidden)]
 pub mod c;
 mod logs;
+mod names;
 mod quotes;
 mod states;
 
 use core::fmt;
 
+pub use allowed::Allowed;
 pub use boots::{secure_boot, SecureBoot, SecureBootFault, SecureBootState, SECURE_BOOT_FAULTS};
 pub use buffers::{build_command, Command, List, Response, Session};
 pub use logs::{
-    check, check_quote, events, replay, Bank, Digest, Event, Events, Nonce, Registers, Replay, Required, Text, TypeName,
-    Variable, Verdict,
+    check, check_quote, events, replay, Bank, Digest, Event, Events, Expected, MeasuredPart, Nonce, Registers, Replay,
+    Required, Text, TypeName, Variable, Verdict,
 };
-pub use quotes::{Attest, Policy, Selection};
+pub use names::{CodeName, Name};
+pub use quotes::{Attest, Policy, Selection, Signature};
 pub use states::{changes_nv, Caller, Counter, Device, Framer, Place, Room};
 
 /// The version of this crate and of the library that it wants.
@@ -98,6 +102,8 @@ pub enum Fault {
     NoBank,
     /// This is a whole TPMS_ATTEST, which `check` takes; its TPMS_QUOTE_INFO is the `info` of an `Attest`.
     Attest,
+    /// This is a TPM2B_ATTEST: a size of 2 bytes stands before the TPMS_ATTEST, which is what is signed.
+    Sized,
     /// What is required is no TPML_PCR_SELECTION.
     Requirement(Refusal),
     /// The nonce has no byte, or what is required no register, and neither is to be any.
@@ -117,6 +123,7 @@ impl fmt::Display for Fault {
             Fault::SecureBoot(it) => it.fmt(f),
             Fault::Room(count) => write!(f, "there are {count} authorities, and less room"),
             Fault::Attest => f.write_str("this is a whole TPMS_ATTEST, which check takes"),
+            Fault::Sized => f.write_str("a size stands before it: this is a TPM2B_ATTEST"),
             Fault::NoCommand => f.write_str("no command has this number"),
             Fault::Length => f.write_str("the room or a value has another length than is wanted"),
             Fault::NoBank => f.write_str("no bank has this hash"),

@@ -2,35 +2,17 @@
 use crate::{c, judged, part, Bank, Fault};
 use core::fmt;
 
-/// How many bytes a `Selection` has.
-const SELECTION_BYTES: usize = 22;
-
 /// A TPML_PCR_SELECTION: for each bank the registers that are selected there.
 #[derive(Clone, Copy, Debug, PartialEq, Eq)]
-pub struct Selection([u8; SELECTION_BYTES]);
+pub struct Selection([u8; c::TPM_SELECTION_BYTES]);
 
 impl Selection {
     /// What tpm2-tools' lists say, as `sha1:7+sha256:0,1,2` or `sha256:all`, or none where the text is no such list.
     pub fn of(text: &str) -> Option<Self> {
-        let mut spelled = [0; SELECTION_BYTES];
-        spelled[3] = 3;
-        for (entry, bank) in spelled[4..].chunks_exact_mut(6).zip(Bank::ALL) {
-            entry[..2].copy_from_slice(&(bank as u16).to_be_bytes());
-            entry[2] = 3;
-        }
-        for listed in text.split('+') {
-            let (name, list) = listed.split_once(':')?;
-            let bank = Bank::ALL.iter().position(|it| it.name() == name)?;
-            for register in 0..24 {
-                spelled[4 + 6 * bank + 3 + register / 8] |= u8::from(list == "all") << (register % 8);
-            }
-            for word in list.split(',').filter(|_| list != "all") {
-                let digits = word.bytes().all(|it| it.is_ascii_digit());
-                let register = word.parse::<usize>().ok().filter(|it| digits && *it < 24)?;
-                spelled[4 + 6 * bank + 3 + register / 8] |= 1 << (register % 8);
-            }
-        }
-        Some(Selection(spelled))
+        let mut spelled = [0; c::TPM_SELECTION_BYTES];
+        // SAFETY: the text is there for the call, and so many bytes, and nothing else is written.
+        let count = unsafe { c::tpm_selection(text.as_ptr(), text.len(), spelled.as_mut_ptr(), spelled.len()) };
+        (count > 0).then_some(Selection(spelled))
     }
 
     /// Its bytes, as `check` takes them.
@@ -60,15 +42,16 @@ pub struct Attest<'a> {
     pub digest: &'a [u8],
     /// The TPMS_QUOTE_INFO whole, as `check_quote` takes it.
     pub info: &'a [u8],
-    selections: &'a [u8],
+    pub(crate) selections: &'a [u8],
 }
 
 impl<'a> Attest<'a> {
-    /// The quote as it was signed that all the bytes spell, or the first fault.
+    /// The quote as it was signed that all the bytes spell, or the first fault, or `Sized`.
     pub fn decode(bytes: &'a [u8]) -> Result<Self, Fault> {
         let (mut it, mut refusal) = (c::tpm_attest::default(), c::tpm_refusal::default());
         // SAFETY: the bytes are there for the call, and what is written is there and lies nowhere else.
-        judged(unsafe { c::tpm_attest_decode(bytes.as_ptr(), bytes.len(), &mut it, &mut refusal) }, refusal)?;
+        judged(unsafe { c::tpm_attest_decode(bytes.as_ptr(), bytes.len(), &mut it, &mut refusal) }, refusal)
+            .map_err(|fault| named(bytes, fault))?;
         Ok(Attest {
             signer: part(bytes, it.signer),
             nonce: part(bytes, it.nonce),
@@ -88,6 +71,33 @@ impl<'a> Attest<'a> {
         entries(self.selections).filter_map(|entry| {
             let bank = Bank::from_number(u16::from_be_bytes([entry[0], entry[1]]))?;
             Some((bank, (0..24).filter(|i| entry[3 + i / 8] >> (i % 8) & 1 != 0)))
+        })
+    }
+}
+
+/// The signature of a quote, a TPMT_SIGNATURE, whose parts borrow from the bytes that were decoded.
+#[derive(Clone, Copy, Debug, PartialEq, Eq)]
+pub enum Signature<'a> {
+    /// RSASSA, of PKCS #1 version 1.5, of this bank's hash.
+    RsaSsa(Bank, &'a [u8]),
+    /// RSAPSS.
+    RsaPss(Bank, &'a [u8]),
+    /// ECDSA, by its numbers r and s, the more significant byte first.
+    Ecdsa(Bank, &'a [u8], &'a [u8]),
+}
+
+impl<'a> Signature<'a> {
+    /// The signature that all the bytes spell, as `tpm2_quote -s` writes it without `-f plain`, or the first fault.
+    /// Whether it is right is for another crate.
+    pub fn decode(bytes: &'a [u8]) -> Result<Self, Fault> {
+        let (mut it, mut refusal) = (c::tpm_signature::default(), c::tpm_refusal::default());
+        // SAFETY: the bytes are there for the call, and what is written is there and lies nowhere else.
+        judged(unsafe { c::tpm_signature_decode(bytes.as_ptr(), bytes.len(), &mut it, &mut refusal) }, refusal)?;
+        let bank = Bank::from_number(it.hash).ok_or(Fault::NoBank)?;
+        Ok(match it.scheme {
+            c::TPM_ALG_RSASSA => Signature::RsaSsa(bank, part(bytes, it.sig)),
+            c::TPM_ALG_RSAPSS => Signature::RsaPss(bank, part(bytes, it.sig)),
+            _ => Signature::Ecdsa(bank, part(bytes, it.r), part(bytes, it.s)),
         })
     }
 }
@@ -179,4 +189,13 @@ pub(crate) fn selects(spelled: &[u8]) -> bool {
 /// Whether these bytes begin as each TPMS_ATTEST does, by TPM_GENERATED_VALUE (Part 2, 6.2).
 pub(crate) fn is_attest(bytes: &[u8]) -> bool {
     bytes.starts_with(b"\xffTCG")
+}
+
+/// The fault is `Sized` in the place of a refusal of bytes that begin with the size of a TPMS_ATTEST and that.
+pub(crate) fn named(bytes: &[u8], fault: Fault) -> Fault {
+    let sized = bytes.split_first_chunk().filter(|(size, rest)| u16::from_be_bytes(**size) as usize == rest.len());
+    match fault {
+        Fault::Refused(_) if sized.is_some_and(|(_, rest)| is_attest(rest)) => Fault::Sized,
+        fault => fault,
+    }
 }

@@ -2,8 +2,9 @@
 use std::fmt::Write;
 use std::fs;
 use vinjakwe::{
-    changes_nv, check, check_quote, check_version, events, replay, secure_boot, Attest, Bank, Device, Fault, LogFault,
-    Nonce, Policy, Replay, Required, Room, Selection, Verdict, BUFFER_BYTES, DEVICE_KEPT_BYTES, NONCE_BYTES,
+    changes_nv, check, check_quote, check_version, events, replay, secure_boot, Allowed, Attest, Bank, CodeName,
+    Device, Expected, Fault, LogFault, Nonce, Policy, Refusal, Replay, Required, Room, Selection, Signature, Verdict,
+    BUFFER_BYTES, DEVICE_KEPT_BYTES, NONCE_BYTES,
 };
 
 fn read(name: &str) -> Vec<u8> {
@@ -153,7 +154,7 @@ fn each_quote_matches_its_log() {
         let bank = Bank::ALL.into_iter().find(|it| it.name() == hash).unwrap();
         let require = Selection::of(selected).unwrap();
         let required = Required::Registers(require.as_bytes());
-        assert_eq!(check(&log, &quote, Nonce::Is(&nonce), required, bank), Ok(Verdict::Matches));
+        assert_eq!(check(&log, &quote, &Expected::new(Nonce::Is(&nonce), required, bank)), Ok(Verdict::Matches));
         let attest = Attest::decode(&quote).unwrap();
         assert_eq!(attest.nonce, nonce);
         let listed: Vec<String> = attest.selections().map(|(bank, registers)| {
@@ -163,9 +164,112 @@ fn each_quote_matches_its_log() {
         assert_eq!(check_quote(&log, attest.info, bank), Ok(Verdict::Matches));
         assert_eq!(check_quote(&log, &quote, bank), Err(Fault::Attest));
         nonce.push(0);
-        let verdict = check(&log, &quote, Nonce::Is(&nonce), required, bank).unwrap();
+        let verdict = check(&log, &quote, &Expected::new(Nonce::Is(&nonce), required, bank)).unwrap();
         assert_eq!(verdict.to_string(), "nonce differs");
     }
+}
+
+#[test]
+fn another_signer_and_a_size_before_a_quote() {
+    let (log, quote) = (read("quotes/17-ovmf-secureboot.log"), read("quotes/ecc-sha256.msg"));
+    let mut expected = Expected::new(Nonce::Any, Required::Any, Bank::Sha256);
+    // The signer is behind the magic, the type and its size.
+    expected.signer = Some(&quote[8..42]);
+    assert_eq!(check(&log, &quote, &expected), Ok(Verdict::Matches));
+    expected.signer = Some(&[]);
+    assert_eq!(check(&log, &quote, &expected), Ok(Verdict::Signer));
+    let mut sized = (quote.len() as u16).to_be_bytes().to_vec();
+    sized.extend(&quote);
+    assert_eq!(Attest::decode(&sized).err(), Some(Fault::Sized));
+    assert_eq!(check(&log, &sized, &expected), Err(Fault::Sized));
+    sized[1] ^= 1;
+    assert_eq!(Attest::decode(&sized).err(), Some(Fault::Refused(Refusal { code: 0x84, at: 0 })));
+}
+
+#[test]
+fn what_is_vouched_of_each_record() {
+    let (log, quote) = (read("quotes/17-ovmf-secureboot.log"), read("quotes/ecc-sha256.msg"));
+    let attest = Attest::decode(&quote).unwrap();
+    for event in events(&log).map(Result::unwrap) {
+        for bank in Bank::ALL {
+            let selected = bank == Bank::Sha256 && event.register < 8 && event.kind != 3;
+            assert_eq!(event.vouched(&attest, bank), event.measured(bank).filter(|_| selected));
+        }
+    }
+}
+
+#[test]
+fn a_list_of_digests() {
+    let (log, quote) = (read("quotes/17-ovmf-secureboot.log"), read("quotes/ecc-sha256.msg"));
+    let mut lines = String::from("# a boot\n\n");
+    let records: Vec<_> = events(&log).map(Result::unwrap).filter(|it| it.kind != 3 && it.register < 8).collect();
+    let hex = |bytes: &[u8]| bytes.iter().map(|it| format!("{it:02x}")).collect::<String>();
+    let digest = |at: usize| hex(records[at].digests.iter().find(|it| it.hash == Bank::Sha256 as u16).unwrap().bytes);
+    for (at, it) in records.iter().enumerate() {
+        writeln!(lines, "sha256 {} {} words # a comment", it.register, digest(at)).unwrap();
+    }
+    let said = |text: &str| {
+        let mut expected = Expected::new(Nonce::Any, Required::Any, Bank::Sha256);
+        expected.allow = Some(Allowed::of(text).unwrap());
+        check(&log, &quote, &expected).unwrap()
+    };
+    let zeros = "0".repeat(64);
+    assert_eq!(said(&lines), Verdict::Matches);
+    let unknown = Verdict::Unknown(Bank::Sha256, records[0].register, records[0].at);
+    assert_eq!(said(&lines.replace(&digest(0), &zeros)), unknown);
+    assert_eq!(said(&format!("sha256 9 {zeros}")), Verdict::Lacks(Bank::Sha256, 9));
+    for line in ["sha256 4", "md5 4 00", "sha256 4 0g"] {
+        assert_eq!(Allowed::of(&format!("# one\n{line}")).err(), Some(2));
+    }
+}
+
+#[test]
+fn signatures_by_their_parts() {
+    let rsa = |scheme: u8| [&[0, scheme, 0, 0xb, 0, 3][..], b"sig"].concat();
+    assert_eq!(Signature::decode(&rsa(0x14)), Ok(Signature::RsaSsa(Bank::Sha256, b"sig")));
+    assert_eq!(Signature::decode(&rsa(0x16)), Ok(Signature::RsaPss(Bank::Sha256, b"sig")));
+    let ecdsa = [0, 0x18, 0, 4, 0, 2, 1, 2, 0, 1, 3];
+    assert_eq!(Signature::decode(&ecdsa), Ok(Signature::Ecdsa(Bank::Sha1, &[1, 2], &[3])));
+    for (bytes, code, at) in [(&rsa(0x1a)[..], 0x92, 0), (&rsa(0x14)[..8], 0x9a, 6), (&ecdsa[..10], 0x9a, 10)] {
+        assert_eq!(Signature::decode(bytes), Err(Fault::Refused(Refusal { code, at })));
+    }
+}
+
+#[test]
+fn names_of_codes() {
+    for (code, name) in [
+        (0, "TPM_RC_SUCCESS"),
+        (0x921, "TPM_RC_LOCKOUT"),
+        (0x9a2, "TPM_RC_BAD_AUTH for session 1"),
+        (0x1c4, "TPM_RC_VALUE for parameter 1"),
+        (0xfe1, "TPM_RC_RESERVED_BITS for parameter 15"),
+        (0x184, "TPM_RC_VALUE for handle 1"),
+    ] {
+        assert_eq!(CodeName::of(code).unwrap().as_str(), name);
+    }
+    assert_eq!(CodeName::of(0x1084), None);
+}
+
+// A line of these lists has of each record what each digest is of, as `"measured":{"sha256":"data"}`.
+#[test]
+fn what_was_measured_of_each_log_with_a_list() {
+    let logs = format!("{}/../../checks/logs", env!("CARGO_MANIFEST_DIR"));
+    let mut count = 0;
+    for list in fs::read_dir(logs).unwrap().map(|it| it.unwrap().path()) {
+        let log = list.with_extension("log");
+        if !list.extension().is_some_and(|it| it == "json") || !log.exists() {
+            continue;
+        }
+        let (log, lines) = (fs::read(log).unwrap(), fs::read_to_string(&list).unwrap());
+        for (it, line) in events(&log).map_while(Result::ok).zip(lines.lines().filter(|it| it.contains("measured"))) {
+            for bank in Bank::ALL {
+                let told = it.measured(bank).map_or(String::new(), |it| format!("\"{bank}\":\"{it}\""));
+                assert!(line.contains(&told), "{line}");
+                count += usize::from(!told.is_empty());
+            }
+        }
+    }
+    assert!(count > 0);
 }
 
 #[test]
@@ -178,11 +282,12 @@ fn nothing_compared_is_no_success() {
         let bank = Bank::ALL.into_iter().find(|it| it.name() == hash).unwrap();
         let (sent, required) = (Nonce::Is(&nonce), Required::Registers(require.as_bytes()));
         for listed in [&[][..], &no_entry, &no_register] {
-            assert_eq!(check(&log, &quote, sent, Required::Registers(listed), bank), Err(Fault::Nothing));
+            let expected = Expected::new(sent, Required::Registers(listed), bank);
+            assert_eq!(check(&log, &quote, &expected), Err(Fault::Nothing));
         }
-        assert_eq!(check(&log, &quote, Nonce::Is(&[]), required, bank), Err(Fault::Nothing));
-        assert_eq!(check(&log, &quote, Nonce::Any, required, bank), Ok(Verdict::Matches));
-        assert_eq!(check(&log, &quote, sent, Required::Any, bank), Ok(Verdict::Matches));
+        assert_eq!(check(&log, &quote, &Expected::new(Nonce::Is(&[]), required, bank)), Err(Fault::Nothing));
+        assert_eq!(check(&log, &quote, &Expected::new(Nonce::Any, required, bank)), Ok(Verdict::Matches));
+        assert_eq!(check(&log, &quote, &Expected::new(sent, Required::Any, bank)), Ok(Verdict::Matches));
     }
     // The digest of no register is SHA-256 of no bytes.
     let empty = unhex("000000000020e3b0c44298fc1c149afbf4c8996fb92427ae41e4649b934ca495991b7852b855");

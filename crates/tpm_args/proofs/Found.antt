@@ -20,17 +20,17 @@ use Rattle.clap.specs.Kinds.{IsAmong, Kinds}
 use Rattle.clap.specs.Takes.{takes}
 use Rattle.clap.proofs.OnLiterals.{clap_on_literals}
 use Rattle.clap.proofs.WalkLemmas.{first_value-rows}
-use Rattle.tpm_args.specs.Numbers.{IsDecimal}
+use Rattle.tpm_names.specs.Numbers.{IsDecimal, IsPort}
 use Rattle.tpm_args.specs.Owner.{IsOwner}
-use Rattle.tpm_args.specs.declared.check.SignedWords.{SignedWords}
+use Rattle.tpm_options.specs.declared.CheckOptions.{CheckOptions}
 use Rattle.tpm_args.specs.declared.task.Task.TheVariants.{Show, ShowCapture, ShowPackets, ShowNv, Build, Run, Explain}
-use Rattle.tpm_args.specs.declared.task.Task.TheVariants.{ExplainKind, Check, SecureBoot, Events}
+use Rattle.tpm_args.specs.declared.task.Task.TheVariants.{ExplainName, Check, Events}
 use Rattle.tpm_args.specs.declared.task.Task.{Task}
 use Rattle.tpm_args.specs.declared.stop.Stop.TheVariants.{Help, Usage, Memory}
 use Rattle.tpm_args.specs.declared.stop.Stop.{Stop}
 use Rattle.tpm_words.specs.Program.{program_app}
-use Rattle.tpm_args.specs.Task.{Asks, AsksNothing, AsksNothingWith, AsksWith, IsCode, IsHash, IsRegister, Replies}
-use Rattle.tpm_args.specs.Task.{is_given, AreSigned, IsIfBytes, IsKind, IsWith, IsWithEither, Requires, IsInput}
+use Rattle.tpm_args.specs.Task.{Asks, AsksNothing, AsksNothingWith, AsksWith, IsCode, IsRegister, Replies}
+use Rattle.tpm_args.specs.Task.{is_given, AreOptions, IsName, IsInput}
 use Rattle.tpm_args.specs.Stop.{IsHelp, IsMemoryOr, Refuses, StopsFor}
 
 some : {A : Type 0} (x y : A) → (let a : Option A = Some x in a) ≡ Some y → x ≡ y
@@ -43,157 +43,31 @@ opposite_ends e = absurd cc
 other : (name : Text) → bytes_eq name (codes "check") ≡ false → codes "check" ≡ name → ⊥
 other name differs e = opposite_ends (ap (λ (x : Text). bytes_eq x (codes "check")) e ∙ differs)
 
-opposite : (b : Bool) → b ≡ true → b ≡ false → ⊥
-opposite b t f = opposite_ends (sym t ∙ f)
-
--- No task of `check` has a quote as it was signed whose words are not in order.
-pub not_signed : (value : Text → Option Text) → ((s : SignedWords) → AreSigned value s → ⊥) → AsksNothingWith (codes "check") value
-not_signed value none (Check log registers quote attest sent required hash json) h =
-    none (record { attest = attest; nonce = sent; required = required; hash = hash }) h.6
-not_signed value none (SecureBoot log attest sent required hash any_state json) h =
-    none (record { attest = attest; nonce = sent; required = required; hash = hash }) h.5
-not_signed value none (Show reply fields hex) h = absurd (other (codes "show") refl h.0)
-not_signed value none (ShowCapture file binary fields json) h = absurd (other (codes "show") refl h.0)
-not_signed value none (ShowPackets file fields json) h = absurd (other (codes "show") refl h.0)
-not_signed value none (ShowNv file) h = absurd (other (codes "show") refl h.0)
-not_signed value none (Build code handles sessions parameters) h = absurd (other (codes "build") refl h.0)
-not_signed value none (Run owner greatest) h = absurd (other (codes "run") refl h.0)
-not_signed value none (Explain code) h = absurd (other (codes "explain") refl h.0)
-not_signed value none (ExplainKind kind) h = absurd (other (codes "explain") refl h.0)
-not_signed value none (Events log register places digests json) h = absurd (other (codes "events") refl h.0)
-
-neither : (r q : Option Text) → r ≡ None → q ≡ None → (is_some r || is_some q) ≡ true → ⊥
-neither None None r q e = absurd cc
-neither None (Some x) r q e = absurd cc
-neither (Some x) q r s e = absurd cc
-
--- Where Secure Boot is asked for, no task has a list of registers or the information of a quote.
-pub not_beside : (value : Text → Option Text) → is_given (value (codes "secure-boot")) ≡ true
-    → (is_some (value (codes "registers")) || is_some (value (codes "quote"))) ≡ true → AsksNothingWith (codes "check") value
-not_beside value given some (Check log registers quote attest sent required hash json) h =
-    absurd (opposite (is_given (value (codes "secure-boot"))) given h.1)
-not_beside value given some (SecureBoot log attest sent required hash any_state json) h =
-    absurd (neither (value (codes "registers")) (value (codes "quote")) h.3 h.4 some)
-not_beside value given some (Show reply fields hex) h = absurd (other (codes "show") refl h.0)
-not_beside value given some (ShowCapture file binary fields json) h = absurd (other (codes "show") refl h.0)
-not_beside value given some (ShowPackets file fields json) h = absurd (other (codes "show") refl h.0)
-not_beside value given some (ShowNv file) h = absurd (other (codes "show") refl h.0)
-not_beside value given some (Build code handles sessions parameters) h = absurd (other (codes "build") refl h.0)
-not_beside value given some (Run owner greatest) h = absurd (other (codes "run") refl h.0)
-not_beside value given some (Explain code) h = absurd (other (codes "explain") refl h.0)
-not_beside value given some (ExplainKind kind) h = absurd (other (codes "explain") refl h.0)
-not_beside value given some (Events log register places digests json) h = absurd (other (codes "events") refl h.0)
-
--- the same words of a quote as it was signed, by values that agree
-signed_agrees : (v w : Text → Option Text) → ((id : Text) → v id ≡ w id) → (s : SignedWords) → AreSigned v s → AreSigned w s
-signed_agrees v w same s h = (
-  sym (same (codes "attest")) ∙ h.0,
-  sym (same (codes "nonce")) ∙ h.1,
-  subst IsIfBytes (same (codes "nonce")) h.2,
-  subst (λ (x : Option Text). IsWith x (w (codes "attest")))
-      (same (codes "nonce")) (subst (λ (x : Option Text). IsWith (v (codes "nonce")) x) (same (codes "attest")) h.3),
-  subst (λ (x : Option Text). Requires x s.required) (same (codes "require")) h.4,
-  subst (λ (x : Option Text). IsWith x (w (codes "attest"))) (same (codes "require"))
-      (subst (λ (x : Option Text). IsWith (v (codes "require")) x) (same (codes "attest")) h.5),
-  subst (λ (x : Option Text). IsHash (unwrap_or x (codes "sha256")) s.hash) (same (codes "hash")) h.6,
-  subst (λ (x : Option Text). IsWithEither x (w (codes "quote")) (w (codes "attest"))) (same (codes "hash"))
-      (subst (λ (x : Option Text). IsWithEither (v (codes "hash")) x (w (codes "attest"))) (same (codes "quote"))
-      (subst (λ (x : Option Text). IsWithEither (v (codes "hash")) (v (codes "quote")) x) (same (codes "attest")) h.7)),
-)
+-- No task of `check` has options whose words are not in order.
+pub not_asked : (value : Text → Option Text) → ((options : CheckOptions) → AreOptions value options → ⊥) → AsksNothingWith (codes "check") value
+not_asked value none (Check files options) h = none options h.2
+not_asked value none (Show reply fields hex) h = absurd (other (codes "show") refl h.0)
+not_asked value none (ShowCapture file binary fields json) h = absurd (other (codes "show") refl h.0)
+not_asked value none (ShowPackets file port fields json) h = absurd (other (codes "show") refl h.0)
+not_asked value none (ShowNv file) h = absurd (other (codes "show") refl h.0)
+not_asked value none (Build code handles sessions parameters) h = absurd (other (codes "build") refl h.0)
+not_asked value none (Run owner greatest) h = absurd (other (codes "run") refl h.0)
+not_asked value none (Explain code) h = absurd (other (codes "explain") refl h.0)
+not_asked value none (ExplainName word) h = absurd (other (codes "explain") refl h.0)
+not_asked value none (Events log register places digests json) h = absurd (other (codes "events") refl h.0)
 
 -- the same task, by values that agree
 agrees : (name : Text) (v w : Text → Option Text) → ((id : Text) → v id ≡ w id) → (t : Task) → AsksWith name v t → AsksWith name w t
-agrees name v w same (Show reply fields hex) h = (
-  h.0,
-  subst (λ (x : Option Text). Replies x reply) (same (codes "reply")) h.1,
-  h.2 ∙ ap is_given (same (codes "fields")),
-  sym (same (codes "HEX")) ∙ h.3,
-  h.4,
-  sym (same (codes "file")) ∙ h.5,
-  ap is_given (sym (same (codes "binary"))) ∙ h.6,
-  ap is_given (sym (same (codes "json"))) ∙ h.7,
-  sym (same (codes "nv")) ∙ h.8,
-  sym (same (codes "pcap")) ∙ h.9,
-)
-agrees name v w same (ShowCapture file binary fields json) h = (
-  h.0,
-  sym (same (codes "reply")) ∙ h.1,
-  h.2 ∙ ap is_given (same (codes "fields")),
-  sym (same (codes "file")) ∙ h.3,
-  subst (λ (x : Option Text). IsInput x (w (codes "file")))
-      (same (codes "HEX")) (subst (λ (x : Option Text). IsInput (v (codes "HEX")) x) (same (codes "file")) h.4),
-  h.5 ∙ ap is_given (same (codes "binary")),
-  h.6 ∙ ap is_given (same (codes "json")),
-  sym (same (codes "nv")) ∙ h.7,
-  sym (same (codes "pcap")) ∙ h.8,
-)
-agrees name v w same (ShowPackets file fields json) h = (
-  h.0,
-  sym (same (codes "pcap")) ∙ h.1,
-  sym (same (codes "reply")) ∙ h.2,
-  h.3 ∙ ap is_given (same (codes "fields")),
-  h.4 ∙ ap is_given (same (codes "json")),
-  sym (same (codes "HEX")) ∙ h.5,
-  sym (same (codes "file")) ∙ h.6,
-  ap is_given (sym (same (codes "binary"))) ∙ h.7,
-  sym (same (codes "nv")) ∙ h.8,
-)
-agrees name v w same (ShowNv file) h = (
-  h.0,
-  sym (same (codes "nv")) ∙ h.1,
-  sym (same (codes "reply")) ∙ h.2,
-  ap is_given (sym (same (codes "fields"))) ∙ h.3,
-  sym (same (codes "HEX")) ∙ h.4,
-  sym (same (codes "file")) ∙ h.5,
-  ap is_given (sym (same (codes "binary"))) ∙ h.6,
-  ap is_given (sym (same (codes "json"))) ∙ h.7,
-  sym (same (codes "pcap")) ∙ h.8,
-)
-agrees name v w same (Build code handles sessions parameters) h =
-    (h.0, rw (← same (codes "NAME")) h.1, sym (same (codes "HANDLES")) ∙ h.2, sym (same (codes "SESSIONS")) ∙ h.3, sym (same (codes "PARAMETERS")) ∙ h.4)
-agrees name v w same (Run owner greatest) h = (
-  h.0,
-  subst (λ (x : Option Text). IsOwner (unwrap_or x (codes "")) owner) (same (codes "owner")) h.1,
-  subst (λ (x : Option Text). IsDecimal (unwrap_or x (codes "0")) greatest) (same (codes "greatest")) h.2,
-)
-agrees name v w same (Explain code) h = (
-  h.0,
-  subst (λ (x : Option Text). IsCode (is_given x) (w (codes "CODE")) code) (same (codes "decimal"))
-      (subst (λ (x : Option Text). IsCode (is_given (v (codes "decimal"))) x code) (same (codes "CODE")) h.1),
-)
-agrees name v w same (ExplainKind kind) h = (
-  h.0,
-  subst (λ (x : Option Text). IsKind (is_given x) (w (codes "CODE")) kind.now) (same (codes "decimal"))
-      (subst (λ (x : Option Text). IsKind (is_given (v (codes "decimal"))) x kind.now) (same (codes "CODE")) h.1),
-)
-agrees name v w same (Check log registers quote attest sent required hash json) h = (
-  h.0,
-  sym (ap is_given (same (codes "secure-boot"))) ∙ h.1,
-  sym (ap is_given (same (codes "any-state"))) ∙ h.2,
-  sym (same (codes "LOG")) ∙ h.3,
-  sym (same (codes "registers")) ∙ h.4,
-  sym (same (codes "quote")) ∙ h.5,
-  signed_agrees v w same (record { attest = attest; nonce = sent; required = required; hash = hash }) h.6,
-  h.7 ∙ ap is_given (same (codes "json")),
-)
-agrees name v w same (SecureBoot log attest sent required hash any_state json) h = (
-  h.0,
-  sym (ap is_given (same (codes "secure-boot"))) ∙ h.1,
-  sym (same (codes "LOG")) ∙ h.2,
-  sym (same (codes "registers")) ∙ h.3,
-  sym (same (codes "quote")) ∙ h.4,
-  signed_agrees v w same (record { attest = attest; nonce = sent; required = required; hash = hash }) h.5,
-  h.6 ∙ ap is_given (same (codes "any-state")),
-  h.7 ∙ ap is_given (same (codes "json")),
-)
-agrees name v w same (Events log register places digests json) h = (
-  h.0,
-  sym (same (codes "LOG")) ∙ h.1,
-  subst (λ (x : Option Text). IsRegister x register) (same (codes "register")) h.2,
-  h.3 ∙ ap is_given (same (codes "places")),
-  h.4 ∙ ap is_given (same (codes "digests")),
-  h.5 ∙ ap is_given (same (codes "json")),
-)
+agrees name v w same (Show reply fields hex) h = simp same at h
+agrees name v w same (ShowCapture file binary fields json) h = simp same at h
+agrees name v w same (ShowPackets file port fields json) h = simp same at h
+agrees name v w same (ShowNv file) h = simp same at h
+agrees name v w same (Build code handles sessions parameters) h = simp same at h
+agrees name v w same (Run owner greatest) h = simp same at h
+agrees name v w same (Explain code) h = simp same at h
+agrees name v w same (ExplainName word) h = simp same at h
+agrees name v w same (Check files options) h = simp same at h
+agrees name v w same (Events log register places digests json) h = simp same at h
 
 met : (o : Option (Text × List Row)) (name : Text) (f : Found) (t : Task) → option_map
     (λ (p : Text × List Row). p.0) o ≡ Some name → option_map (λ (p : Text × List Row). p.1) o ≡ Some (rows_of f)

@@ -1,3 +1,1 @@
-pub mod Bits
-pub mod Numerals
 pub mod Found

@@ -1,6 +1,6 @@
 -- Names by their text (this profile).
 use Rattle.std.specs.Prelude.{ℕ, Bool, false, if◌then◌else◌, List, [], ◌∷◌, codes, Option, find, map}
-use Rattle.std.specs.Char.{is_ascii_uppercase, to_ascii_lowercase}
+use Rattle.std.specs.Char.{is_ascii_alphabetic, to_ascii_lowercase}
 use Rattle.std.specs.Str.{bytes_eq}
 use Rattle.tpm_types.specs.declared.command_code.CommandCode.{CommandCode}
 use Rattle.tpm_types.specs.CommandCodes.{all_commands, code_name}
@@ -20,7 +20,7 @@ word_in name = name
 abbrev pub command_of_name : List ℕ → Option CommandCode
 command_of_name name = find (λ code. same_word (code_name code) (word_in name)) all_commands
 
--- Kinds of faults begin with a capital letter.
-abbrev pub is_kind : List ℕ → Bool
-is_kind [] = false
-is_kind (first ∷ rest) = is_ascii_uppercase first
+-- The names of response codes and of the kinds of faults begin with a letter.
+abbrev pub is_name : List ℕ → Bool
+is_name [] = false
+is_name (first ∷ rest) = is_ascii_alphabetic first

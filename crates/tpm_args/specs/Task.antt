@@ -1,19 +1,21 @@
 -- What the words ask for, by what clap finds in them.
 use Rattle.std.specs.Prelude.{◌≡◌, ℕ, List, [], ◌∷◌, take, drop, Option, Some, None, codes, option_and_then, option_map}
-use Rattle.std.specs.Prelude.{Bool, true, false, unwrap_or, if◌then◌else◌, IsSomeAnd, ◌≢◌, is_some}
+use Rattle.std.specs.Prelude.{Bool, true, false, not, ◌&&◌, ◌||◌, unwrap_or, if◌then◌else◌, IsSomeAnd, ◌≢◌, is_some}
+use Rattle.std.specs.Global.{Vec}
 use Rattle.std.specs.Str.{bytes_eq}
 use Rattle.clap.specs.Words.{Row, Text, first_of}
 use Rattle.tpm_types.specs.declared.alg.Alg.{Alg}
 use Rattle.tpm_types.specs.Alg.{alg_name}
 use Rattle.tpm_types.specs.declared.tpms.Selection.{Selection}
 use Rattle.tpm_types.specs.declared.command_code.CommandCode.{CommandCode}
-use Rattle.tpm_args.specs.Names.{command_of_name, is_kind}
-use Rattle.tpm_args.specs.Numbers.{IsDecimal, IsHexadecimal, IsShortDecimal}
+use Rattle.tpm_options.specs.declared.CheckFiles.{CheckFiles}
+use Rattle.tpm_options.specs.declared.CheckOptions.{CheckOptions}
+use Rattle.tpm_args.specs.Names.{command_of_name, is_name}
+use Rattle.tpm_names.specs.Numbers.{IsDecimal, IsHexadecimal, IsPort, IsShortDecimal}
 use Rattle.tpm_args.specs.Owner.{IsOwner, bytes_in}
-use Rattle.tpm_args.specs.Selections.{AreSelections}
-use Rattle.tpm_args.specs.declared.check.SignedWords.{SignedWords}
+use Rattle.tpm_names.specs.Selections.{AreSelections}
 use Rattle.tpm_args.specs.declared.task.Task.TheVariants.{Show, ShowCapture, ShowPackets, ShowNv, Build, Run, Explain}
-use Rattle.tpm_args.specs.declared.task.Task.TheVariants.{ExplainKind, Check, SecureBoot, Events}
+use Rattle.tpm_args.specs.declared.task.Task.TheVariants.{ExplainName, Check, Events}
 use Rattle.tpm_args.specs.declared.task.Task.{Task}
 
 -- the command of the option, where the option is given
@@ -39,12 +41,12 @@ IsCode decimal None code = ⊥
 IsCode true (Some text) code = IsShortDecimal text code
 IsCode false (Some text) code = IsHexadecimal (digits_in text) code
 
--- the kind of a fault by a word that is no code
-abbrev pub IsKind : (decimal : Bool) → Option Text → (kind : Text) → Type 0
-IsKind decimal None kind = ⊥
-IsKind true (Some text) kind = ⊥
-IsKind false (Some text) kind =
-    (text ≡ kind) × (is_kind text ≡ true) × ((code : ℕ) → IsHexadecimal (digits_in text) code → ⊥)
+-- the name of a code or of a fault's kind, by a word that is no number
+abbrev pub IsName : (decimal : Bool) → Option Text → (name : Text) → Type 0
+IsName decimal None name = ⊥
+IsName true (Some text) name = ⊥
+IsName false (Some text) name =
+    (text ≡ name) × (is_name text ≡ true) × ((code : ℕ) → IsHexadecimal (digits_in text) code → ⊥)
 
 -- the name of a hash
 abbrev pub IsHash : Text → Alg → Type 0
@@ -67,26 +69,64 @@ abbrev pub IsWithEither : Option Text → (other another : Option Text) → Type
 IsWithEither option None another = IsWith option another
 IsWithEither option (Some text) another = Unit {0}
 
--- bytes in hexadecimal digits, where the option is given
-abbrev pub IsIfBytes : Option Text → Type 0
-IsIfBytes None = Unit {0}
-IsIfBytes (Some text) = is_some (bytes_in text) ≡ true
+-- bytes by their hexadecimal digits, where the option is given
+abbrev pub AreBytes : Option Text → Option (Vec ℕ) → Type 0
+AreBytes None bytes = bytes ≡ None
+AreBytes (Some text) bytes = IsSomeAnd bytes (λ v. bytes_in text ≡ Some v.items)
 
 -- the registers that a list names, where it is given
 abbrev pub Requires : Option Text → Option (List Selection) → Type 0
 Requires None required = required ≡ None
 Requires (Some text) required = IsSomeAnd required (AreSelections text)
 
--- a quote as it was signed, and what is expected of it: a nonce and a list of registers go with the quote, and a hash
+-- the hash of a name, where it is given
+abbrev pub IsHashIf : Option Text → Option Alg → Type 0
+IsHashIf None hash = hash ≡ None
+IsHashIf (Some text) hash = IsSomeAnd hash (IsHash text)
+
+-- the files of a check
+abbrev pub AreFiles : (Text → Option Text) → CheckFiles → Type 0
+AreFiles value f =
+    (value (codes "LOG") ≡ Some f.log.now)
+    × (value (codes "registers") ≡ option_map (λ r. r.now) f.registers)
+    × (value (codes "attest") ≡ option_map (λ a. a.now) f.attest)
+
+-- A flag is not given, or this holds.
+abbrev pub goes_with : (flag holds : Bool) → Bool
+goes_with flag holds = not flag || holds
+
+-- Secure Boot is asked for beside neither a list of registers nor the information of a quote, and any state only of it;
+-- any nonce and any selection only of a quote as it was signed, beside no nonce and no list.
+abbrev pub GoTogether : (Text → Option Text) → Type 0
+GoTogether value =
+    (goes_with (is_given (value (codes "secure-boot")))
+    (not (is_some (value (codes "registers"))) && not (is_some (value (codes "quote")))) ≡ true)
+    × (goes_with (is_given (value (codes "any-state"))) (is_given (value (codes "secure-boot"))) ≡ true)
+    × (goes_with (is_given (value (codes "any-nonce")))
+    (is_some (value (codes "attest")) && not (is_some (value (codes "nonce")))) ≡ true)
+    × (goes_with (is_given (value (codes "any-selection")))
+    (is_some (value (codes "attest")) && not (is_some (value (codes "require")))) ≡ true)
+
+-- what is expected of quotes: a nonce, a list of registers and a signer go with a quote as it was signed, and a hash
 -- with it or with the information of a quote
-abbrev pub AreSigned : (Text → Option Text) → SignedWords → Type 0
-AreSigned value s =
-    (value (codes "attest") ≡ option_map (λ a. a.now) s.attest)
-    × (value (codes "nonce") ≡ option_map (λ n. n.now) s.nonce)
-    × IsIfBytes (value (codes "nonce")) × IsWith (value (codes "nonce")) (value (codes "attest"))
-    × Requires (value (codes "require")) s.required × IsWith (value (codes "require")) (value (codes "attest"))
-    × IsHash (unwrap_or (value (codes "hash")) (codes "sha256")) s.hash
+abbrev pub AreExpected : (Text → Option Text) → CheckOptions → Type 0
+AreExpected value o =
+    IsWith (value (codes "nonce")) (value (codes "attest")) × AreBytes (value (codes "nonce")) o.nonce
+    × IsWith (value (codes "require")) (value (codes "attest")) × Requires (value (codes "require")) o.required
+    × IsWith (value (codes "signer")) (value (codes "attest")) × AreBytes (value (codes "signer")) o.signer
+    × IsHashIf (value (codes "hash")) o.hash
     × IsWithEither (value (codes "hash")) (value (codes "quote")) (value (codes "attest"))
+
+abbrev pub AreOptions : (Text → Option Text) → CheckOptions → Type 0
+AreOptions value o =
+    GoTogether value
+    × AreExpected value o
+    × (o.any_nonce ≡ is_given (value (codes "any-nonce")))
+    × (o.any_selection ≡ is_given (value (codes "any-selection")))
+    × (value (codes "quote") ≡ option_map (λ q. q.now) o.quote)
+    × (o.secure_boot ≡ is_given (value (codes "secure-boot")))
+    × (o.any_state ≡ is_given (value (codes "any-state")))
+    × (o.json ≡ is_given (value (codes "json")))
 
 -- standard input, by the word `-`, or a file
 abbrev pub IsInput : (word file : Option Text) → Type 0
@@ -107,17 +147,17 @@ AsksWith name value (Show reply fields hex) =
     × (fields ≡ is_given (value (codes "fields")))
     × (value (codes "HEX") ≡ Some hex.now) × (hex.now ≢ codes "-") × (value (codes "file") ≡ None)
     × (is_given (value (codes "binary")) ≡ false) × (is_given (value (codes "json")) ≡ false)
-    × (value (codes "nv") ≡ None) × (value (codes "pcap") ≡ None)
+    × (value (codes "nv") ≡ None) × (value (codes "pcap") ≡ None) × (value (codes "port") ≡ None)
 AsksWith name value (ShowCapture file binary fields json) =
     (name ≡ codes "show")
     × (value (codes "reply") ≡ None)
     × (fields ≡ is_given (value (codes "fields")))
     × (value (codes "file") ≡ option_map (λ f. f.now) file) × IsInput (value (codes "HEX")) (value (codes "file"))
     × (binary ≡ is_given (value (codes "binary"))) × (json ≡ is_given (value (codes "json")))
-    × (value (codes "nv") ≡ None) × (value (codes "pcap") ≡ None)
-AsksWith name value (ShowPackets file fields json) =
+    × (value (codes "nv") ≡ None) × (value (codes "pcap") ≡ None) × (value (codes "port") ≡ None)
+AsksWith name value (ShowPackets file port fields json) =
     (name ≡ codes "show")
-    × (value (codes "pcap") ≡ Some file.now)
+    × (value (codes "pcap") ≡ Some file.now) × IsPort (unwrap_or (value (codes "port")) (codes "2321")) port
     × (value (codes "reply") ≡ None)
     × (fields ≡ is_given (value (codes "fields"))) × (json ≡ is_given (value (codes "json")))
     × (value (codes "HEX") ≡ None) × (value (codes "file") ≡ None)
@@ -126,7 +166,7 @@ AsksWith name value (ShowNv file) =
     (name ≡ codes "show") × (value (codes "nv") ≡ Some file.now) × (value (codes "reply") ≡ None)
     × (is_given (value (codes "fields")) ≡ false) × (value (codes "HEX") ≡ None) × (value (codes "file") ≡ None)
     × (is_given (value (codes "binary")) ≡ false) × (is_given (value (codes "json")) ≡ false)
-    × (value (codes "pcap") ≡ None)
+    × (value (codes "pcap") ≡ None) × (value (codes "port") ≡ None)
 AsksWith name value (Build code handles sessions parameters) = (name ≡ codes "build")
     × (option_and_then command_of_name (value (codes "NAME")) ≡ Some code)
     × (value (codes "HANDLES") ≡ Some handles.now)
@@ -138,23 +178,10 @@ AsksWith name value (Run owner greatest) =
     × IsDecimal (unwrap_or (value (codes "greatest")) (codes "0")) greatest
 AsksWith name value (Explain code) =
     (name ≡ codes "explain") × IsCode (is_given (value (codes "decimal"))) (value (codes "CODE")) code
-AsksWith name value (ExplainKind kind) =
-    (name ≡ codes "explain") × IsKind (is_given (value (codes "decimal"))) (value (codes "CODE")) kind.now
-AsksWith name value (Check log registers quote attest sent required hash json) =
-    (name ≡ codes "check")
-    × (is_given (value (codes "secure-boot")) ≡ false) × (is_given (value (codes "any-state")) ≡ false)
-    × (value (codes "LOG") ≡ Some log.now)
-    × (value (codes "registers") ≡ option_map (λ r. r.now) registers)
-    × (value (codes "quote") ≡ option_map (λ q. q.now) quote)
-    × AreSigned value (record { attest = attest; nonce = sent; required = required; hash = hash })
-    × (json ≡ is_given (value (codes "json")))
-AsksWith name value (SecureBoot log attest sent required hash any_state json) =
-    (name ≡ codes "check")
-    × (is_given (value (codes "secure-boot")) ≡ true)
-    × (value (codes "LOG") ≡ Some log.now)
-    × (value (codes "registers") ≡ None) × (value (codes "quote") ≡ None)
-    × AreSigned value (record { attest = attest; nonce = sent; required = required; hash = hash })
-    × (any_state ≡ is_given (value (codes "any-state"))) × (json ≡ is_given (value (codes "json")))
+AsksWith name value (ExplainName word) =
+    (name ≡ codes "explain") × IsName (is_given (value (codes "decimal"))) (value (codes "CODE")) word.now
+AsksWith name value (Check files options) =
+    (name ≡ codes "check") × AreFiles value files × AreOptions value options
 AsksWith name value (Events log register places digests json) =
     (name ≡ codes "events")
     × (value (codes "LOG") ≡ Some log.now)

@@ -1,124 +1,137 @@
 //! The words of the subcommand `check`.
 
-ghost use Rattle.std.specs.Prelude.{◌≡◌, ◌||◌, true, List, Option, MatchOption, MatchResult, codes};
-ghost use Rattle.std.specs.Prelude.{is_some, option_map};
+ghost use Rattle.std.specs.Prelude.{◌≡◌, ◌&&◌, ℕ, Option, List, MatchOption, MatchResult, codes, false, is_some};
+ghost use Rattle.std.specs.Prelude.{not, option_map, true};
+ghost use Rattle.std.specs.Global.{Vec as VecValue};
 ghost use Rattle.clap.specs.Words.{first_value, found_of};
 ghost use Rattle.tpm_types.specs.declared.alg.Alg.{Alg as AlgValue};
 ghost use Rattle.tpm_types.specs.declared.tpms.Selection.{Selection as SelectionValue};
+ghost use Rattle.tpm_options.specs.declared.CheckOptions.{CheckOptions as CheckOptionsValue};
 ghost use Rattle.tpm_args.specs.Stop.{IsAsked, IsMemoryOr};
-ghost use Rattle.tpm_args.specs.declared.check.SignedWords.{SignedWords as SignedWordsValue};
-ghost use Rattle.tpm_args.specs.Task.{is_given as is_given_by, AreSigned};
-ghost use Rattle.tpm_args.specs.Task.{IsHash, IsIfBytes, IsWith, IsWithEither, Requires};
+ghost use Rattle.tpm_args.specs.Task.{AreBytes, AreOptions, GoTogether, IsHash, IsHashIf, goes_with};
+ghost use Rattle.tpm_args.specs.Task.{IsWith, IsWithEither, Requires};
 
-use crate::bytes::is_hexadecimal;
+use crate::bytes::bytes_in;
 use crate::given::is_given;
 use crate::invalid::{Subcommand, invalid_value, not_hexadecimal, wrong_words};
-use crate::selection::selections;
 use crate::stop::Stop;
 use crate::task::{Asked, Task};
 use clap::ArgMatches;
 use std::alloc::Global;
+use tpm_names::selection::selections;
+use tpm_options::{CheckFiles, CheckOptions};
 use tpm_types::{Alg, Selections};
-
-/// The words of a quote as it was signed.
-#[derive(Drop)]
-pub(crate) struct SignedWords<'a> {
-    /// Its path.
-    pub attest: Option<&'a str>,
-    /// The nonce that was sent for it, in hexadecimal digits.
-    pub nonce: Option<&'a str>,
-    /// The registers that it has to select.
-    pub required: Option<Selections>,
-    /// The hash of its digest.
-    pub hash: Alg,
-}
 
 /// The task of the words of `check`.
 pub(crate) fn check_task<'a>(alloc: Global, words: &ArgMatches<'a>) -> Asked<'a>
     ensures { IsAsked (codes "check") words.now result }
 {
-    if is_given(words, "secure-boot") {
-        return secure_boot_task(alloc, words);
-    }
-    if is_given(words, "any-state") {
-        return Err(wrong_words(
-            alloc,
-            Subcommand::Check,
-            "--any-state goes with --secure-boot",
-        ));
-    }
     let Some(log) = words.get_str("LOG") else {
         return Ok(None);
     };
-    let signed = signed_words(alloc, words)?;
-    Ok(Some(Task::Check {
+    let options = options(alloc, words)?;
+    let files = CheckFiles {
         log,
         registers: words.get_str("registers"),
-        quote: words.get_str("quote"),
-        attest: signed.attest,
-        nonce: signed.nonce,
-        required: signed.required,
-        hash: signed.hash,
-        json: is_given(words, "json"),
-    }))
-}
-
-// The task of the words where Secure Boot is asked for.
-fn secure_boot_task<'a>(alloc: Global, words: &ArgMatches<'a>) -> Asked<'a>
-    requires { is_given_by (first_value (found_of words.now) (codes "secure-boot")) ≡ true }
-    ensures { IsAsked (codes "check") words.now result }
-{
-    if is_beside_others(words) {
-        let reason = "--secure-boot goes with neither --registers nor --quote";
-        return Err(wrong_words(alloc, Subcommand::Check, reason));
-    }
-    let Some(log) = words.get_str("LOG") else {
-        return Ok(None);
+        attest: words.get_str("attest"),
     };
-    let signed = signed_words(alloc, words)?;
-    Ok(Some(Task::SecureBoot {
-        log,
-        attest: signed.attest,
-        nonce: signed.nonce,
-        required: signed.required,
-        hash: signed.hash,
-        any_state: is_given(words, "any-state"),
-        json: is_given(words, "json"),
-    }))
+    Ok(Some(Task::Check { files, options }))
 }
 
-// Whether a list of registers or the information of a quote is given.
-fn is_beside_others(words: &ArgMatches<'_>) -> bool
-    ensures { result
-        ≡ (is_some (first_value (found_of words.now) (codes "registers"))
-        || is_some (first_value (found_of words.now) (codes "quote"))) }
-{
-    words.get_str("registers").is_some() || words.get_str("quote").is_some()
-}
-
-// The words of a quote as it was signed. A usage fault where they are not in order.
-fn signed_words<'a>(alloc: Global, words: &ArgMatches<'a>) -> Result<SignedWords<'a>, Stop>
+// What is asked of the files. A usage fault where the words are not in order.
+fn options<'a>(alloc: Global, words: &ArgMatches<'a>) -> Result<CheckOptions<'a>, Stop>
     ensures { MatchResult result
-        (λ signed. AreSigned (first_value (found_of words.now)) signed)
-        (IsMemoryOr ((signed : SignedWordsValue)
-        → AreSigned (first_value (found_of words.now)) signed → ⊥)) }
+        (λ options. AreOptions (first_value (found_of words.now)) options)
+        (IsMemoryOr ((options : CheckOptionsValue)
+        → AreOptions (first_value (found_of words.now)) options → ⊥)) }
 {
+    check_flags(alloc, words)?;
     let attest = words.get_str("attest");
     let nonce = words.get_str("nonce");
     with_attest(alloc, nonce, "--nonce <HEX>", attest)?;
-    check_nonce(alloc, nonce)?;
+    let nonce = bytes(alloc, nonce, "--nonce <HEX>")?;
     let list = words.get_str("require");
     with_attest(alloc, list, "--require <LIST>", attest)?;
     let required = required(alloc, list)?;
+    let signer = words.get_str("signer");
+    with_attest(alloc, signer, "--signer <HEX>", attest)?;
+    let signer = bytes(alloc, signer, "--signer <HEX>")?;
     let name = words.get_str("hash");
-    let hash = hash(alloc, name.unwrap_or("sha256"))?;
-    with_quote(alloc, name, words.get_str("quote"), attest)?;
-    Ok(SignedWords {
-        attest,
+    let hash = hash(alloc, name)?;
+    let quote = words.get_str("quote");
+    with_quote(alloc, name, quote, attest)?;
+    Ok(CheckOptions {
         nonce,
+        any_nonce: is_given(words, "any-nonce"),
         required,
+        any_selection: is_given(words, "any-selection"),
+        signer,
+        quote,
         hash,
+        secure_boot: is_given(words, "secure-boot"),
+        any_state: is_given(words, "any-state"),
+        json: is_given(words, "json"),
     })
+}
+
+// A usage fault where a flag is given beside words with which it doesn't go.
+fn check_flags(alloc: Global, words: &ArgMatches<'_>) -> Result<(), Stop>
+    ensures { MatchResult result (λ _. GoTogether (first_value (found_of words.now)))
+        (IsMemoryOr (GoTogether (first_value (found_of words.now)) → ⊥)) }
+{
+    let attest = has(words, "attest");
+    let secure_boot = is_given(words, "secure-boot");
+    let alone = is_without(!has(words, "registers"), has(words, "quote"));
+    let reason = "--secure-boot goes with neither --registers nor --quote";
+    check_flag(alloc, goes_with(secure_boot, alone), reason)?;
+    let any_state = is_given(words, "any-state");
+    let reason = "--any-state goes with --secure-boot";
+    check_flag(alloc, goes_with(any_state, secure_boot), reason)?;
+    let without_nonce = is_without(attest, has(words, "nonce"));
+    let reason = "--any-nonce goes with --attest, and not with --nonce";
+    check_flag(
+        alloc,
+        goes_with(is_given(words, "any-nonce"), without_nonce),
+        reason,
+    )?;
+    let without_list = is_without(attest, has(words, "require"));
+    let reason = "--any-selection goes with --attest, and not with --require";
+    check_flag(
+        alloc,
+        goes_with(is_given(words, "any-selection"), without_list),
+        reason,
+    )
+}
+
+// Whether the option of this name is given.
+fn has(words: &ArgMatches<'_>, name: &str) -> bool
+    ensures { result ≡ is_some (first_value (found_of words.now) name.now) }
+{
+    words.get_str(name).is_some()
+}
+
+// Whether the one holds, and not the other.
+fn is_without(one: bool, other: bool) -> bool
+    ensures { result ≡ (one && not other) }
+{
+    one && !other
+}
+
+// Whether a flag is not given, or this holds.
+fn goes_with(flag: bool, holds: bool) -> bool
+    ensures { result ≡ goes_with flag holds }
+{
+    !flag || holds
+}
+
+// A usage fault for this reason, where that doesn't hold.
+fn check_flag(alloc: Global, holds: bool, reason: &str) -> Result<(), Stop>
+    ensures { MatchResult result (λ _. holds ≡ true) (IsMemoryOr (holds ≡ false)) }
+{
+    if holds {
+        return Ok(());
+    }
+    Err(wrong_words(alloc, Subcommand::Check, reason))
 }
 
 // A usage fault where this word is given without a quote as it was signed.
@@ -142,18 +155,19 @@ fn with_attest(
     }
 }
 
-// A usage fault where the nonce is given and not hexadecimal.
-fn check_nonce(alloc: Global, nonce: Option<&str>) -> Result<(), Stop>
-    ensures { MatchResult result (λ _. IsIfBytes (option_map (λ n. n.now) nonce.entry))
-        (IsMemoryOr (IsIfBytes (option_map (λ n. n.now) nonce.entry) → ⊥)) }
+// The bytes of hexadecimal digits, where they are given. A usage fault where they are none.
+fn bytes(alloc: Global, text: Option<&str>, word: &str) -> Result<Option<Vec<u8>>, Stop>
+    ensures { MatchResult result (λ bytes. AreBytes (option_map (λ t. t.now) text.entry) bytes)
+        (IsMemoryOr ((bytes : Option (VecValue ℕ))
+        → AreBytes (option_map (λ t. t.now) text.entry) bytes → ⊥)) }
 {
-    let Some(text) = nonce else {
-        return Ok(());
+    let Some(text) = text else {
+        return Ok(None);
     };
-    if is_hexadecimal(alloc, text)? {
-        return Ok(());
+    match bytes_in(alloc, text)? {
+        Some(bytes) => Ok(Some(bytes)),
+        None => Err(not_hexadecimal(alloc, Subcommand::Check, text, word)),
     }
-    Err(not_hexadecimal(alloc, Subcommand::Check, text, "--nonce <HEX>"))
 }
 
 // A usage fault where a hash is given without a quote.
@@ -204,13 +218,17 @@ fn hash_named(text: &str) -> Option<Alg>
     Alg::ALL.iter().copied().find(|hash| hash.name() == text)
 }
 
-// The hash of this name. A usage fault where none has it.
-fn hash(alloc: Global, text: &str) -> Result<Alg, Stop>
-    ensures { MatchResult result (λ hash. IsHash text.now hash)
-        (IsMemoryOr ((hash : AlgValue) → IsHash text.now hash → ⊥)) }
+// The hash of this name, where it is given. A usage fault where none has it.
+fn hash(alloc: Global, name: Option<&str>) -> Result<Option<Alg>, Stop>
+    ensures { MatchResult result (λ hash. IsHashIf (option_map (λ n. n.now) name.entry) hash)
+        (IsMemoryOr ((hash : Option AlgValue)
+        → IsHashIf (option_map (λ n. n.now) name.entry) hash → ⊥)) }
 {
+    let Some(text) = name else {
+        return Ok(None);
+    };
     match hash_named(text) {
-        Some(hash) => Ok(hash),
+        Some(hash) => Ok(Some(hash)),
         None => {
             let reason = "it is none of sha1, sha256 and sha384";
             Err(invalid_value(alloc, Subcommand::Check, text, "--hash <NAME>", reason))

@@ -5,9 +5,9 @@ ghost use Rattle.tpm_args.specs.Stop.{IsMemoryOr};
 ghost use Rattle.tpm_args.specs.Task.{IsRegister};
 
 use crate::invalid::{Subcommand, invalid_value};
-use crate::number::decimal;
 use crate::stop::Stop;
 use std::alloc::Global;
+use tpm_names::number::decimal;
 
 /// The register that alone is listed: a number of decimal digits alone, without a sign. A usage
 /// fault where it is none, or not below 2^64.

@@ -2,21 +2,21 @@
 
 ghost use Rattle.std.specs.Prelude.{◌≡◌, ℕ, List, Some, MatchOption, codes};
 ghost use Rattle.clap.specs.Words.{first_value, found_of};
-ghost use Rattle.tpm_args.specs.Numbers.{IsHexadecimal};
+ghost use Rattle.tpm_names.specs.Numbers.{IsHexadecimal};
 ghost use Rattle.tpm_args.specs.Stop.{IsAsked, IsMemoryOr};
-ghost use Rattle.tpm_args.specs.Task.{digits_in, AsksNothingWith, AsksWith, IsCode, IsKind};
+ghost use Rattle.tpm_args.specs.Task.{digits_in, AsksNothingWith, AsksWith, IsCode, IsName};
 
 use crate::given::is_given;
 use crate::invalid::{Subcommand, invalid_value};
-use crate::name::is_kind;
-use crate::number::{hexadecimal, short_decimal};
+use crate::name::is_name;
 use crate::stop::Stop;
 use crate::task::{Asked, Task};
 use clap::ArgMatches;
 use std::alloc::Global;
+use tpm_names::number::{hexadecimal, short_decimal};
 
 /// The task of the words of `explain`. A usage fault where the word is no number of the radix below 2^32, and in
-/// hexadecimal no name of a kind either.
+/// hexadecimal no name either.
 pub(crate) fn explain_task<'a>(alloc: Global, words: &ArgMatches<'a>) -> Asked<'a>
     ensures { IsAsked (codes "explain") words.now result }
 {
@@ -26,7 +26,7 @@ pub(crate) fn explain_task<'a>(alloc: Global, words: &ArgMatches<'a>) -> Asked<'
     }
 }
 
-// A code, or else the kind of a fault.
+// A code, or else a name.
 fn explained<'a>(words: &ArgMatches<'a>) -> Option<Task<'a>>
     ensures { MatchOption result
         (AsksNothingWith (codes "explain") (first_value (found_of words.now)))
@@ -37,17 +37,17 @@ fn explained<'a>(words: &ArgMatches<'a>) -> Option<Task<'a>>
     if let Some(code) = number_in(decimal, text) {
         return Some(Task::Explain { code });
     }
-    Some(Task::ExplainKind {
-        kind: kind_in(decimal, text)?,
+    Some(Task::ExplainName {
+        name: name_in(decimal, text)?,
     })
 }
 
-// The text where it is the kind of a fault and no code.
-fn kind_in(decimal: bool, text: &str) -> Option<&str>
-    ensures { MatchOption result ((kind : List ℕ) → IsKind decimal (Some text.now) kind → ⊥)
-        (λ kind. IsKind decimal (Some text.now) kind.now) }
+// The text where it is a name and no number.
+fn name_in(decimal: bool, text: &str) -> Option<&str>
+    ensures { MatchOption result ((name : List ℕ) → IsName decimal (Some text.now) name → ⊥)
+        (λ name. IsName decimal (Some text.now) name.now) }
 {
-    if decimal || !is_kind(text) || number(text).is_some() {
+    if decimal || !is_name(text) || number(text).is_some() {
         return None;
     }
     Some(text)

@@ -56,15 +56,17 @@ impl Words {
     ///
     /// - `show`: more than one of a buffer, a capture, packets and NV memory, or none; a name of `--reply` that no
     ///   command has; a capture with `--reply`, a buffer with `--binary` or `--json`, packets with `--reply` or
-    ///   `--binary`, or NV memory with any other option.
+    ///   `--binary`, NV memory with any other option, or a port without packets, or above 65535.
     /// - `build`: a name that no command has.
     /// - `run`: an owner value that is not hexadecimal or has more than 48 bytes; a number that is other than decimal
     ///   digits or above 2^64 - 1.
-    /// - `explain`: a number above 2^32 - 1 or other digits than those of its radix, where it is no name of a kind or
+    /// - `explain`: a number above 2^32 - 1 or other digits than those of its radix, where it begins with no letter or
     ///   `--decimal` is given.
-    /// - `check`: a hash other than `sha1`, `sha256` and `sha384`; a nonce that is not hexadecimal; a list of no
-    ///   registers; a word whose quote is not given (the nonce and the list want `--attest`, the hash one of `--quote`
-    ///   and `--attest`); `--secure-boot` beside `--registers` or `--quote`; `--any-state` without `--secure-boot`.
+    /// - `check`: a hash other than `sha1`, `sha256` and `sha384`; a nonce or a signer that is not hexadecimal; a list
+    ///   of no registers; a word whose quote is not given (the hash wants one of `--quote` and `--attest`; the nonce,
+    ///   the list, the signer, `--any-nonce` and `--any-selection` want `--attest`); any nonce beside a nonce, and any
+    ///   selection beside a list; `--secure-boot` beside `--registers` or `--quote`; `--any-state` without
+    ///   `--secure-boot`.
     /// - `events`: a register's number that is other than decimal digits or above 2^64 - 1.
     pub fn task(&self, alloc: Global) -> Result<Task<'_>, Stop>
         ensures ok { IfOk result (λ t. Asks (subcommand_of program_app self.now) t) }

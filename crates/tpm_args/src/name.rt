@@ -1,7 +1,7 @@
 //! Names.
 
 ghost use Rattle.std.specs.Prelude.{◌≡◌};
-ghost use Rattle.tpm_args.specs.Names.{command_of_name, same_word, word_in, is_kind as is_kind_of};
+ghost use Rattle.tpm_args.specs.Names.{command_of_name, same_word, word_in, is_name as is_name_of};
 
 use tpm_types::CommandCode;
 
@@ -17,12 +17,12 @@ pub fn command_named(name: &str) -> Option<CommandCode>
         .find(|code| same_word(code.name().as_bytes(), word))
 }
 
-/// Whether a text begins as the kind of a fault does: with a capital letter of ASCII.
-pub fn is_kind(text: &str) -> bool
-    ensures { result ≡ is_kind_of text.now }
+/// Whether a text begins as the names of response codes and of the kinds of faults do: with a letter of ASCII.
+pub fn is_name(text: &str) -> bool
+    ensures { result ≡ is_name_of text.now }
 {
     match text.as_bytes() {
-        [first, ..] => first.is_ascii_uppercase(),
+        [first, ..] => first.is_ascii_alphabetic(),
         [] => false,
     }
 }

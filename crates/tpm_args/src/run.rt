@@ -1,17 +1,17 @@
 //! The words of the subcommand `run`.
 
 ghost use Rattle.std.specs.Prelude.{ℕ, List, MatchResult, codes};
-ghost use Rattle.tpm_args.specs.Numbers.{IsDecimal};
+ghost use Rattle.tpm_names.specs.Numbers.{IsDecimal};
 ghost use Rattle.tpm_args.specs.Owner.{IsOwner};
 ghost use Rattle.tpm_args.specs.Stop.{IsAsked, IsMemoryOr};
 
 use crate::invalid::{Subcommand, invalid_value, not_hexadecimal};
-use crate::number::decimal;
 use crate::owner::{OwnerFault, owner_value};
 use crate::stop::Stop;
 use crate::task::{Asked, Task};
 use clap::ArgMatches;
 use std::alloc::{AllocError, Global};
+use tpm_names::number::decimal;
 use tpm_types::{AuthValue, DIGEST_BYTES};
 
 /// The task of the words of `run`.

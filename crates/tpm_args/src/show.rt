@@ -6,15 +6,19 @@ ghost use Rattle.tpm_args.specs.Stop.{IsAsked, IsMemoryOr};
 ghost use Rattle.tpm_args.specs.Task.{AsksNothingWith, AsksWith, HasNone, IsInput};
 
 use crate::given::is_given;
-use crate::invalid::{Subcommand, no_command, wrong_words};
+use crate::invalid::{Subcommand, invalid_value, no_command, wrong_words};
 use crate::name::command_named;
 use crate::stop::Stop;
 use crate::task::{Asked, Task};
 use clap::ArgMatches;
 use std::alloc::Global;
+use tpm_names::number::port;
 
-// Packets, in this file. None where another of a buffer and three files is given, and where they are to be read as a
-// response or as a stream.
+/// The port of a simulator where none is given: mssim's for commands, and swtpm's for data.
+const PORT: &str = "2321";
+
+// Packets, in this file. None where another of a buffer and three files is given, where they are to be read as a
+// response or as a stream, and where the port is no number of one.
 fn shown_packets<'a>(words: &ArgMatches<'a>, file: &'a str) -> Option<Task<'a>>
     requires { first_value (found_of words.now) (codes "pcap") ≡ Some file.now }
     ensures { MatchOption result (AsksNothingWith (codes "show") (first_value (found_of words.now)))
@@ -30,6 +34,7 @@ fn shown_packets<'a>(words: &ArgMatches<'a>, file: &'a str) -> Option<Task<'a>>
     }
     Some(Task::ShowPackets {
         file,
+        port: port(words.get_str("port").unwrap_or(PORT))?,
         fields: is_given(words, "fields"),
         json: is_given(words, "json"),
     })
@@ -39,7 +44,8 @@ fn shown_packets<'a>(words: &ArgMatches<'a>, file: &'a str) -> Option<Task<'a>>
 // JSON.
 fn shown_buffer<'a>(words: &ArgMatches<'a>, hex: &'a str) -> Option<Task<'a>>
     requires digits { (first_value (found_of words.now) (codes "HEX") ≡ Some hex.now) × (hex.now ≢ codes "-") }
-    requires alone { HasNone (first_value (found_of words.now)) (codes "file" ∷ codes "nv" ∷ codes "pcap" ∷ []) }
+    requires alone { HasNone (first_value (found_of words.now))
+        (codes "file" ∷ codes "nv" ∷ codes "pcap" ∷ codes "port" ∷ []) }
     ensures { MatchOption result (AsksNothingWith (codes "show") (first_value (found_of words.now)))
         (λ t. AsksWith (codes "show") (first_value (found_of words.now)) t) }
 {
@@ -61,7 +67,7 @@ fn shown_buffer<'a>(words: &ArgMatches<'a>, hex: &'a str) -> Option<Task<'a>>
 fn shown_capture<'a>(words: &ArgMatches<'a>, file: Option<&'a str>) -> Option<Task<'a>>
     requires input { (first_value (found_of words.now) (codes "file") ≡ option_map (λ f. f.now) file)
         × IsInput (first_value (found_of words.now) (codes "HEX")) (first_value (found_of words.now) (codes "file")) }
-    requires alone { HasNone (first_value (found_of words.now)) (codes "nv" ∷ codes "pcap" ∷ []) }
+    requires alone { HasNone (first_value (found_of words.now)) (codes "nv" ∷ codes "pcap" ∷ codes "port" ∷ []) }
     ensures { MatchOption result (AsksNothingWith (codes "show") (first_value (found_of words.now)))
         (λ t. AsksWith (codes "show") (first_value (found_of words.now)) t) }
 {
@@ -79,7 +85,8 @@ fn shown_capture<'a>(words: &ArgMatches<'a>, file: Option<&'a str>) -> Option<Ta
 // Kept NV memory. None where it is to be told by another option.
 fn shown_memory<'a>(words: &ArgMatches<'a>, file: &'a str) -> Option<Task<'a>>
     requires file { first_value (found_of words.now) (codes "nv") ≡ Some file.now }
-    requires alone { HasNone (first_value (found_of words.now)) (codes "HEX" ∷ codes "file" ∷ codes "pcap" ∷ []) }
+    requires alone { HasNone (first_value (found_of words.now))
+        (codes "HEX" ∷ codes "file" ∷ codes "pcap" ∷ codes "port" ∷ []) }
     ensures { MatchOption result (AsksNothingWith (codes "show") (first_value (found_of words.now)))
         (λ t. AsksWith (codes "show") (first_value (found_of words.now)) t) }
 {
@@ -94,12 +101,15 @@ fn shown_memory<'a>(words: &ArgMatches<'a>, file: &'a str) -> Option<Task<'a>>
 }
 
 // A buffer, a capture or kept NV memory, where no packets are given. None where they have more than one of a buffer and
-// two files, or none.
+// two files, or none, and where a port is given.
 fn shown_without<'a>(words: &ArgMatches<'a>) -> Option<Task<'a>>
     requires { first_value (found_of words.now) (codes "pcap") ≡ None }
     ensures { MatchOption result (AsksNothingWith (codes "show") (first_value (found_of words.now)))
         (λ t. AsksWith (codes "show") (first_value (found_of words.now)) t) }
 {
+    if words.get_str("port").is_some() {
+        return None;
+    }
     let file = words.get_str("file");
     match (words.get_str("HEX"), file, words.get_str("nv")) {
         (Some("-"), None, None) | (None, Some(_), None) => shown_capture(words, file),
@@ -123,9 +133,10 @@ fn shown<'a>(words: &ArgMatches<'a>) -> Option<Task<'a>>
 // Why they ask for nothing.
 fn fault(words: &ArgMatches<'_>) -> &'static str {
     match (words.get_str("pcap"), words.get_str("nv")) {
+        (None, _) if words.get_str("port").is_some() => "--port <N> goes with --pcap <FILE>",
         (None, None) => buffer_fault(words),
         (Some(_), None) if has_neither(words) =>
-            "--pcap <FILE> goes with --fields and --json alone",
+            "--pcap <FILE> goes with --port <N>, --fields and --json alone",
         (None, Some(_)) if has_neither(words) => "--nv <FILE> goes with no other option",
         _ => ONE_WANTED,
     }
@@ -151,12 +162,22 @@ fn has_neither(words: &ArgMatches<'_>) -> bool {
     words.get_str("HEX").is_none() && words.get_str("file").is_none()
 }
 
+// Whether the port is one, or none is given.
+fn is_port(words: &ArgMatches<'_>) -> bool {
+    port(words.get_str("port").unwrap_or(PORT)).is_some()
+}
+
 fn not_shown(alloc: Global, words: &ArgMatches<'_>) -> Stop
     ensures { IsMemoryOr (Unit {0}) result }
 {
     match words.get_str("reply") {
         Some(name) if command_named(name).is_none() => {
             no_command(alloc, Subcommand::Show, name, "--reply <NAME>")
+        }
+        _ if !is_port(words) => {
+            let text = words.get_str("port").unwrap_or("");
+            let reason = "it is no decimal number up to 65535";
+            invalid_value(alloc, Subcommand::Show, text, "--port <N>", reason)
         }
         _ => wrong_words(alloc, Subcommand::Show, fault(words)),
     }

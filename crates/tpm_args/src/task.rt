@@ -1,7 +1,8 @@
 //! What the words ask for.
 
 use crate::stop::Stop;
-use tpm_types::{Alg, AuthValue, CommandCode, Selections};
+use tpm_options::{CheckFiles, CheckOptions};
+use tpm_types::{AuthValue, CommandCode};
 
 /// What the words of a subcommand ask for, if anything.
 pub(crate) type Asked<'a> = Result<Option<Task<'a>>, Stop>;
@@ -30,10 +31,12 @@ pub enum Task<'a> {
         /// Whether each frame is printed as an object of JSON.
         json: bool,
     },
-    /// `show [--fields] [--json] --pcap FILE`: print each frame that went over a simulator's port.
+    /// `show [--fields] [--json] --pcap FILE [--port N]`: print each frame that went over a simulator's port.
     ShowPackets {
         /// The path of the packets, a file of libpcap.
         file: &'a str,
+        /// The port.
+        port: u16,
         /// Whether each parameter is printed by its name and its type, too.
         fields: bool,
         /// Whether each frame is printed as an object of JSON.
@@ -68,48 +71,19 @@ pub enum Task<'a> {
         /// The code.
         code: u32,
     },
-    /// `explain KIND`: print what the kind of a log's fault says. It begins with a capital letter, and is no code.
-    ExplainKind {
-        /// The kind.
-        kind: &'a str,
+    /// `explain NAME`: print what a response code of this name says, or the kind of a log's fault. It begins with a
+    /// letter, and is no number.
+    ExplainName {
+        /// The name.
+        name: &'a str,
     },
-    /// `check LOG [--registers FILE] [--quote HEX] [--attest FILE [--nonce HEX] [--require LIST]]
-    /// [--hash NAME] [--json]`: print the registers that a log gives, or compare them.
+    /// `check LOG ..`: print the registers that a log gives, or compare them; or, with `--secure-boot`, print whether
+    /// Secure Boot was on in the boot that the log tells of.
     Check {
-        /// The path of the log.
-        log: &'a str,
-        /// That of a list of registers.
-        registers: Option<&'a str>,
-        /// A quote's information, in hexadecimal digits.
-        quote: Option<&'a str>,
-        /// The path of a quote as it was signed.
-        attest: Option<&'a str>,
-        /// The nonce that was sent for it, in hexadecimal digits.
-        nonce: Option<&'a str>,
-        /// The registers that it has to select.
-        required: Option<Selections>,
-        /// The hash of the quote's digest.
-        hash: Alg,
-        /// Whether what is printed is objects of JSON.
-        json: bool,
-    },
-    /// `check LOG --secure-boot [--any-state] [--attest FILE [--nonce HEX] [--require LIST] [--hash NAME]] [--json]`:
-    /// print whether Secure Boot was on in the boot that a log tells of, alone or behind what a quote says.
-    SecureBoot {
-        /// The path of the log.
-        log: &'a str,
-        /// That of a quote as it was signed.
-        attest: Option<&'a str>,
-        /// The nonce that was sent for it, in hexadecimal digits.
-        nonce: Option<&'a str>,
-        /// The registers that it has to select.
-        required: Option<Selections>,
-        /// The hash of its digest.
-        hash: Alg,
-        /// Whether `off` and `unset` are what is asked for, too.
-        any_state: bool,
-        /// Whether what is printed is objects of JSON.
-        json: bool,
+        /// The files.
+        files: CheckFiles<'a>,
+        /// What is asked of them.
+        options: CheckOptions<'a>,
     },
     /// `events LOG [--register N] [--places] [--digests] [--json]`: print the records of a log.
     Events {

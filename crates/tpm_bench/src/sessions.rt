@@ -7,7 +7,7 @@ ghost use Rattle.tpm_model.specs.Authorization.{authorize, first_loaded};
 
 use tpm_buffer::{Areas, AuthRef, areas};
 use tpm_commands::StartAuth;
-use tpm_session::{Entity, Sessions};
+use tpm_session::{Claim, Entity, Sessions};
 use tpm_types::{Alg, BindHandle, Name, Nonce, SessionType, SymDef, name_of_handle};
 
 /// Starts an HMAC session of SHA-256 in slot 0, which is bound to none and whose nonceTPM is 32
@@ -54,25 +54,23 @@ fn started() -> Sessions {
 // Whether a command of a register is authorized at this update counter. The counter is another one
 // each time, so that the compiler cannot take one answer for all.
 #[inline(never)]
-fn is_authorized(
+fn is_authorized<'a>(
     sessions: &Sessions,
     auths: &[AuthRef<'_>],
-    areas: &Areas<'_>,
-    names: &[Name],
+    areas: &Areas<'a>,
+    names: &'a [Name],
     counter: u32,
 ) -> bool
     requires { 0 < length auths.now }
     ensures { result ≡ is_ok (authorize (first_loaded (loaded sessions.now) auths.now)
         Register areas.now.header.code names.now areas.now.params counter auths.now) }
 {
-    sessions
-        .authorize(
-            auths,
-            &Entity::Register,
-            areas.code(),
-            names,
-            areas.params(),
-            counter,
-        )
-        .is_ok()
+    let claim = Claim {
+        entity: Entity::Register,
+        command: areas.code(),
+        names,
+        params: areas.params(),
+        update_counter: counter,
+    };
+    sessions.authorize(auths, &claim).is_ok()
 }

@@ -12,6 +12,7 @@ pub mod Quoting
 pub mod Replies
 pub mod Restoring
 pub mod Sealing
+pub mod Signing
 pub mod Starting
 pub mod Steps
 pub mod Telling

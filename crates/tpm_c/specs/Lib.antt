@@ -8,6 +8,7 @@ pub mod KeptDevices
 pub mod LogEvents
 pub mod LogPieces
 pub mod Logs
+pub mod Measured
 pub mod Parts
 pub mod Policies
 pub mod Quotes
@@ -15,6 +16,10 @@ pub mod RecordTexts
 pub mod ResponseViews
 pub mod Rooms
 pub mod SecureBoots
+pub mod Selections
+pub mod Signatures
 pub mod Variables
+pub mod Vouched
 pub mod Written
+pub mod AnswerNames
 pub mod Attests

@@ -144,7 +144,7 @@ const LACKS: u32 = 20;
 const EMPTY: u32 = 21;
 
 /// What is required is no selection.
-const REQUIREMENT: u32 = 22;
+pub(crate) const REQUIREMENT: u32 = 22;
 
 fn tell(found: Result<(), AttestFault>, quoted: &Selections, fault: &mut TpmAttestFault) -> u32
     ensures { TellsJudged quoted.now found

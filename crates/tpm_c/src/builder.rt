@@ -8,7 +8,7 @@ ghost use Rattle.tpm_c.specs.Builds.{HasFront, Builds, BuildsBytes};
 ghost use Rattle.tpm_c.specs.Written.{IsIn};
 
 use crate::command::judge_params;
-use crate::out::BUFFER_BYTES;
+use crate::handed::BUFFER_BYTES;
 use crate::part::{DONE, NO_COMMAND, NO_ROOM, TpmRefusal, refuse};
 use tpm_buffer::{UnjoinedCommand, areas};
 use tpm_types::CommandCode;

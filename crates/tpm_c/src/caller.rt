@@ -19,7 +19,7 @@ ghost use Rattle.tpm_c.specs.Callers.{held_at, request_in, start_reply_in, start
 ghost use Rattle.tpm_c.specs.Callers.{fault_number, open_code, kept, after_open, give_up_code, after_give_up};
 ghost use Rattle.tpm_c.specs.Callers.{are_short, do_fit, is_set, seal_of, sealing, sealed_bytes, after_seal};
 
-use crate::out::BUFFER_BYTES;
+use crate::handed::BUFFER_BYTES;
 use arrayvec::ArrayVec;
 use tpm_buffer::{areas, decode_response};
 use tpm_caller::{Caller, CallerFault, Pending, Plain};

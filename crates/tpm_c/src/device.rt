@@ -8,7 +8,7 @@ ghost use Rattle.tpm_device.specs.Stands.{Stands};
 ghost use Rattle.tpm_c.specs.Written.{IsIn};
 ghost use Rattle.tpm_c.specs.Devices.{device_at, room_for, made_at, whether_fits, after, written, IsAnswered};
 
-use crate::out::{BUFFER_BYTES, put};
+use crate::handed::{BUFFER_BYTES, put};
 use tpm_device::{Device, ResponseBuffer};
 use tpm_types::{AuthValue, DIGEST_BYTES};
 

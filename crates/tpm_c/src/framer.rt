@@ -8,7 +8,7 @@ ghost use Rattle.tpm_stream.specs.declared.framer.Status.{Status as StatusOf};
 ghost use Rattle.tpm_stream.specs.contracts.framer.Framer.{the_row};
 ghost use Rattle.tpm_c.specs.Framers.{framer_at, next_at, pushed_at, status_number, FrameIn};
 
-use crate::out::put;
+use crate::handed::put;
 use tpm_stream::{Framer, Status};
 
 /// Makes a framer in the room, which holds nothing.

@@ -12,7 +12,7 @@ ghost use Rattle.tpm_c.specs.KeptDevices.{restored_at, greatest_of, hash_of, ses
 ghost use Rattle.tpm_c.specs.KeptDevices.{counters_of, counter_view, IsCounterTold};
 
 use crate::device::tpm_device_init;
-use crate::out::put;
+use crate::handed::put;
 use crate::part::{DONE, REFUSED, TpmRefusal, refuse};
 use tpm_device::{Device, changes_nv};
 use tpm_nv::{Counter, Counters};

@@ -1,17 +1,21 @@
 //! The library for C: each function works in memory that the caller hands in.
 #![tactic(auto)]
 
+mod answer_name;
 mod attest;
 mod builder;
 mod caller;
+mod code_name;
 mod command;
 mod device;
 mod framer;
+mod handed;
+mod hash;
 mod kept;
 mod log;
 mod log_event;
 mod log_pieces;
-mod out;
+mod measured;
 mod part;
 mod policy;
 mod quote;
@@ -19,16 +23,22 @@ mod record_text;
 mod response;
 mod rooms;
 mod secure_boot;
+mod selection;
+mod signature;
 mod variable;
+mod vouched;
 
+pub use answer_name::tpm_log_answer_name;
 pub use attest::{TpmAttest, TpmAttestFault, tpm_attest_decode, tpm_log_check_attest};
 pub use builder::tpm_command_build;
 pub use caller::{
     tpm_caller_give_up, tpm_caller_init, tpm_caller_open, tpm_caller_seal, tpm_caller_start,
 };
+pub use code_name::tpm_code_name;
 pub use command::{TpmCommandAreas, TpmCommandSession, tpm_command_cut, tpm_command_decode};
 pub use device::{tpm_device_execute, tpm_device_init, tpm_device_power_cycle};
 pub use framer::{tpm_framer_frame, tpm_framer_init, tpm_framer_next, tpm_framer_push};
+pub use hash::tpm_hash;
 pub use kept::{
     TpmCounter, tpm_device_changes_nv, tpm_device_counter, tpm_device_counters,
     tpm_device_greatest, tpm_device_keep, tpm_device_restore, tpm_device_session_hash,
@@ -36,6 +46,7 @@ pub use kept::{
 pub use log::tpm_log_replay;
 pub use log_event::{TpmLogDigest, TpmLogEvent, TpmLogPlace, tpm_log_event};
 pub use log_pieces::{tpm_log_replay_end, tpm_log_replay_feed, tpm_log_replay_init};
+pub use measured::tpm_log_measured;
 pub use part::{TpmPart, TpmRefusal};
 pub use policy::{
     TpmPolicy, tpm_policy_auth_value, tpm_policy_command_code, tpm_policy_or, tpm_policy_pcr,
@@ -49,4 +60,7 @@ pub use rooms::{
     tpm_framer_size, tpm_log_replay_align, tpm_log_replay_size,
 };
 pub use secure_boot::{TpmSecureBoot, tpm_log_secure_boot};
+pub use selection::tpm_selection;
+pub use signature::{TpmSignature, tpm_signature_decode};
 pub use variable::{TpmVariable, tpm_log_variable};
+pub use vouched::tpm_log_vouched;

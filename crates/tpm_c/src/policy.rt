@@ -8,7 +8,7 @@ ghost use Rattle.tpm_model.specs.Policies.Assertion.{OrAsserted, CodeAsserted, A
 ghost use Rattle.tpm_session.specs.Policies.{as_assertion};
 ghost use Rattle.tpm_c.specs.Policies.{IsEmpty, IsAsserted, AssertsSpelled, IsPcrAsserted, of_registers, with_digest};
 
-use crate::out::put;
+use crate::handed::put;
 use crate::part::{DONE, TpmRefusal, refuse};
 use tpm_session::{Assertion, extend_policy};
 use tpm_types::{Alg, DIGEST_BYTES, Digest, OrDigests, Selections};
@@ -35,7 +35,7 @@ fn or_digests_in(bytes: &[u8]) -> Result<OrDigests, Refusal>
     take_whole(bytes)
 }
 
-fn selections_in(bytes: &[u8]) -> Result<Selections, Refusal>
+pub(crate) fn selections_in(bytes: &[u8]) -> Result<Selections, Refusal>
     ensures { result ≡ read_all selections_layout bytes.now }
 {
     take_whole(bytes)

@@ -58,6 +58,7 @@ fn fault_number(kind: SecureBootFaultKind) -> u32
         SecureBootFaultKind::Late => 72,
         SecureBootFaultKind::NoKey => 73,
         SecureBootFaultKind::NoAuthority => 74,
+        SecureBootFaultKind::NoSecureBoot => 75,
     }
 }
 

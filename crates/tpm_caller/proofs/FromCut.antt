@@ -32,9 +32,10 @@ use Rattle.tpm_model.specs.Callers.{WrongMac, Waiting, opened_response}
 use Rattle.tpm_model.proofs.Sealing.{okay, okay_is}
 use Rattle.tpm_model.proofs.ReplySessions.{goes_on, no_handles, from_start, fronted, fronted_too}
 use Rattle.tpm_caller.specs.declared.waiting.CallerFault.TheVariants as faults
-use Rattle.tpm_caller.specs.Sent.{has_no_params}
-use Rattle.tpm_caller.proofs.Opening.{HasMac, FirstFault, only, other_mac}
+use Rattle.tpm_caller.specs.Faults.{HasFirstFault}
+use Rattle.tpm_caller.proofs.Opening.{HasMac, only, other_mac}
 use Rattle.tpm_caller.proofs.ReplyParams.{without_auths, raw_behind}
+use Rattle.tpm_caller.specs.inner.Finding.{has_no_params}
 
 -- ---- a reply without parameters
 
@@ -167,7 +168,7 @@ is_plain _ bytes c a is empty one s = absurd (let z : ⊥ = cc in z)
 
 pub plain_wrong_mac : (z : Waiting) (bytes : List ℕ) (cut : ReplyCut) (a : AuthReply) (mac : List ℕ)
     → HasMac z bytes cut a mac → a.hmac ≢ mac → has_no_params z.code ≡ true → length cut.params ≡ 0
-    → FirstFault bytes faults.WrongMac z
+    → HasFirstFault z bytes faults.WrongMac
 plain_wrong_mac z bytes cut a mac h differ is empty =
     let p = is_plain z.code bytes cut a is empty (only cut.auths a h.one.count h.one.first) h.one.spells in (
       WrongMac,

@@ -24,11 +24,13 @@ use Rattle.tpm_buffer.specs.Commands.{handles_of, params_of, with_auths, rest_of
 use Rattle.tpm_hmac.specs.Hmac.{hmac}
 use Rattle.tpm_hmac.specs.Sessions.{whole_key, cp_hash, mac_text}
 use Rattle.tpm_hmac.proofs.DigestLengths.{length-hmac}
-use Rattle.tpm_model.specs.Callers.{Seal, attrs_for, command_params, seal_key, seal_text, seal_auth, sealed}
+use Rattle.tpm_model.specs.Callers.{Seal, attrs_for, command_params, seal_key, seal_text, seal_auth, sealed, sealed_command}
 use Rattle.tpm_model.specs.Premises.{HasSpelling}
-use Rattle.tpm_caller.specs.Sent.{hmac_key, hmac_at, with_hmac}
+use Rattle.tpm_model.proofs.Sealing.{has_spelling}
+use Rattle.tpm_caller.specs.Sent.{hmac_key, IsSpelled}
 use Rattle.tpm_caller.specs.Plain.{handle_bytes}
 use Rattle.tpm_caller.proofs.Keys.{one_hmac}
+use Rattle.tpm_caller.specs.inner.Placing.{hmac_at, with_hmac}
 
 -- ---- the parts of a command with one session
 
@@ -62,7 +64,7 @@ rest_length : (hs auth params : List ℕ) (size : ℕ)
     ≡ length hs + (4 + length auth + length params)
 rest_length hs auth params size = simp length-append (omega arith)
 
-size_is : (body : CommandBody) (a : Auth) → size_of (with_auths body (a ∷ [])) ≡ total body a.nonce (length a.hmac)
+pub size_is : (body : CommandBody) (a : Auth) → size_of (with_auths body (a ∷ [])) ≡ total body a.nonce (length a.hmac)
 unfolding authorization authorization_size sessions one_session
 size_is body a =
     ap (λ (n : ℕ). 10 + n) (rest_length (handle_bytes body) (one_session a) (command_params body) (length (one_session a)))
@@ -299,9 +301,13 @@ command_fits body n a mac same f =
           (rest_fits body (n - length (spelling header (header_of (with_auths body (a ∷ []))))) a mac same f.1),
     )
 
+-- What has a spelling is spelled by it.
+pub spelled_so : (s : Seal) → HasSpelling s → IsSpelled s
+spelled_so s fits = record { fits = fits; spells = has_spelling (sealed_command s) fits }
+
 -- The sealed command has a spelling, as it has without its HMAC.
-pub has_spelling : (s : Seal) (a : Auth) (bytes : List ℕ) → IsUnsigned s a bytes → Fits (length bytes) command (with_auths s.body (a ∷ [])) → HasSpelling s
-has_spelling s a bytes u f =
+pub sealed_spelled : (s : Seal) (a : Auth) (bytes : List ℕ) → IsUnsigned s a bytes → Fits (length bytes) command (with_auths s.body (a ∷ [])) → IsSpelled s
+sealed_spelled s a bytes u f =
     let mac = hmac s.caller.hash (seal_key s) (seal_text s) in
     let long : length mac ≡ length a.hmac = length-hmac s.caller.hash (seal_key s) (seal_text s) ∙ sym u.hmac in
     let made : re_signed a mac ≡ seal_auth s = ap (λ (x : Auth). re_signed x mac) u.auth in
@@ -311,9 +317,9 @@ has_spelling s a bytes u f =
     (before s.body a.session a.nonce a.attrs (length mac)) a.hmac mac (command_params s.body)
     (ap (λ (k : ℕ). length (before s.body a.session a.nonce a.attrs k)) (sym long)) (sym long)
     ∙ ap length (sym (parts s.body (re_signed a mac))) ∙ ap (λ (x : Auth). length (spelling command (with_auths s.body (x ∷ [])))) made in
-    subst (λ (x : Auth). Fits (length (sealed s)) command (with_auths s.body (x ∷ []))) made
+    spelled_so s (subst (λ (x : Auth). Fits (length (sealed s)) command (with_auths s.body (x ∷ []))) made
     (command_fits s.body (length (sealed s)) a mac long
-    (subst (λ (n : ℕ). Fits n command (with_auths s.body (a ∷ []))) sizes f))
+    (subst (λ (n : ℕ). Fits n command (with_auths s.body (a ∷ []))) sizes f)))
   where
     lengths : (one two mac other params : List ℕ) → length one ≡ length two → length mac ≡ length other
         → length (one ++ (mac ++ params)) ≡ length (two ++ (other ++ params))

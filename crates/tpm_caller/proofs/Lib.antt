@@ -7,3 +7,4 @@ pub mod Told
 pub mod FromCut
 pub mod Splicing
 pub mod PlainParts
+pub mod FromParts

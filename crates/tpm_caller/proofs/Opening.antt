@@ -4,7 +4,7 @@ use Rattle.std.proofs.Common.{refl, sym, ap, ◌∙◌, subst, arith}
 use Rattle.std.proofs.lemmas.Bool.{eq-eqb, ne_eqb}
 use Rattle.std.proofs.lemmas.List.{append-nil}
 use Rattle.std.proofs.lemmas.Slice.Eq.{bytes_eq-Decides}
-use Rattle.std.specs.Prelude.{slice_get, bytes_eq, IfOk, IfErr}
+use Rattle.std.specs.Prelude.{slice_get, bytes_eq}
 use Rattle.tpm_wire.specs.declared.refusal.Refusal.{Refusal}
 use Rattle.tpm_wire.specs.Buffers.{buffer}
 use Rattle.tpm_wire.specs.Path.{Spells, Fault}
@@ -30,10 +30,11 @@ use Rattle.tpm_model.specs.Callers.{opened_response, opened, caller_of_refusal, 
 use Rattle.tpm_model.proofs.RoundTrip.{open_is}
 use Rattle.tpm_model.specs.Callers as model
 use Rattle.tpm_caller.specs.declared.waiting.CallerFault.{CallerFault}
-use Rattle.tpm_caller.specs.Sent.{caller_with, IsSpelledBy, IsTold}
-use Rattle.tpm_caller.specs.Faults.{fault_of, opening_of}
+use Rattle.tpm_caller.specs.Sent.{caller_with}
+use Rattle.tpm_caller.specs.Faults.{opening_of, HasFirstFault}
 use Rattle.tpm_caller.proofs.ReplyParams.{params_are}
 use Rattle.tpm_caller.specs.declared.waiting.CallerFault.TheVariants as faults
+use Rattle.tpm_caller.specs.inner.Finding.{HasFault, IsSpelledBy, IsTold, OpensWith}
 
 -- ---- the cut of a reply
 
@@ -108,20 +109,11 @@ mac_is w body a alg key p rp params nonce own mac attrs same_alg same_key same_p
 
 -- ---- what checking answers
 
-abbrev pub FaultFor : List ℕ → CallerFault → Waiting → Type 0
-FaultFor bytes fault z =
-    (body : ReplyBody) (auths : List AuthReply) → IsSpelledBy bytes z.code body auths
-    → (f : model.CallerFault) × (opened_session z body auths ≡ Err f) × (fault ≡ fault_of f)
-
-abbrev pub OpenFor : List ℕ → List ℕ → Waiting → Type 0
-OpenFor bytes nonce z = (body : ReplyBody) (auths : List AuthReply) → IsSpelledBy bytes z.code body auths
-    → opened_session z body auths ≡ Ok (record { caller = caller_with z nonce; response = done_with (record { body = body; auths = auths }) })
-
-pub no_cut : (bytes : List ℕ) (fault : CallerFault) (z : Waiting) → ((c : ReplyCut) → Spells (reply_cut z.code) c bytes → ⊥) → FaultFor bytes fault z
+pub no_cut : (bytes : List ℕ) (fault : CallerFault) (z : Waiting) → ((c : ReplyCut) → Spells (reply_cut z.code) c bytes → ⊥) → HasFault z bytes fault
 no_cut bytes fault z none body auths s = let x = some_cut z.code bytes body auths s in absurd (none x.0 x.1)
 
 pub not_one_for : (bytes : List ℕ) (z : Waiting) (cut : ReplyCut) → Spells (reply_cut z.code) cut bytes
-    → length cut.auths ≢ 1 → FaultFor bytes faults.NotExpected z
+    → length cut.auths ≢ 1 → HasFault z bytes faults.NotExpected
 not_one_for bytes z cut spells more body auths s = (
   NotExpected,
   not_one z body auths (λ e. more (ap length (same_auths z.code bytes body auths cut s spells) ∙ e)),
@@ -129,7 +121,7 @@ not_one_for bytes z cut spells more body auths s = (
 )
 
 pub other_length_for : (bytes : List ℕ) (z : Waiting) (cut : ReplyCut) (a : AuthReply) → HasOne z bytes cut a
-    → length a.nonce ≢ length z.caller.nonce → FaultFor bytes faults.NotExpected z
+    → length a.nonce ≢ length z.caller.nonce → HasFault z bytes faults.NotExpected
 other_length_for bytes z cut a h differ body auths s = (
   NotExpected,
   ap (opened_session z body) (one_auth z bytes cut a body auths h s) ∙ other_length z body a differ,
@@ -143,7 +135,7 @@ pub record HasMac (z : Waiting) (bytes : List ℕ) (cut : ReplyCut) (a : AuthRep
   pub is : (body : ReplyBody) → cut.params ≡ reply_params body → mac ≡ hmac z.caller.hash z.key (awaited_text z body a)
 
 pub other_mac_for : (bytes : List ℕ) (z : Waiting) (cut : ReplyCut) (a : AuthReply) (mac : List ℕ)
-    → HasMac z bytes cut a mac → a.hmac ≢ mac → needs_authorization z.code ≡ true → FaultFor bytes faults.WrongMac z
+    → HasMac z bytes cut a mac → a.hmac ≢ mac → needs_authorization z.code ≡ true → HasFault z bytes faults.WrongMac
 other_mac_for bytes z cut a mac h differ needs body auths s = (
   WrongMac,
   ap (opened_session z body) (one_auth z bytes cut a body auths h.one s)
@@ -154,7 +146,7 @@ other_mac_for bytes z cut a mac h differ needs body auths s = (
 
 pub open_for : (bytes nonce : List ℕ) (z : Waiting) (cut : ReplyCut) (a : AuthReply) (mac : List ℕ)
     → HasMac z bytes cut a mac → a.hmac ≡ mac → needs_authorization z.code ≡ true → nonce ≡ a.nonce
-    → OpenFor bytes nonce z
+    → OpensWith z bytes nonce
 open_for bytes nonce z cut a mac h same needs is body auths s =
     let one = one_auth z bytes cut a body auths h.one s in
     let made : List ℕ → List AuthReply → Result Opened model.CallerFault =
@@ -189,18 +181,14 @@ spelled_by z code bytes r body auths same s is made = record {
 pub open_done : (z : Waiting) (code : CommandCode) (bytes nonce : List ℕ) (r : Response) (body : ReplyBody)
     (auths : List AuthReply) (caller : Option CallerSession)
     → code ≡ z.code → Spells (response code) r bytes
-    → bytes ≡ spelling (response code) r → r ≡ done_with (record { body = body; auths = auths }) → OpenFor bytes nonce z
+    → bytes ≡ spelling (response code) r → r ≡ done_with (record { body = body; auths = auths }) → OpensWith z bytes nonce
     → caller ≡ caller_with z nonce → okay (caller, r) ≡ opening_of z (opened z bytes)
 open_done z code bytes nonce r body auths caller same s is made opens kept =
     let x = spelled_by z code bytes r body auths same s is made in
     ap (λ (o : Option CallerSession). okay (o, r)) kept ∙ ap (λ (q : Response). okay (caller_with z nonce, q)) made
     ∙ sym (ap (opening_of z) (opened_is z code bytes r same s ∙ ap (λ (q : Response). opened_response z (Ok q)) made ∙ opens body auths x))
 
--- The first fault of the bytes, as it is answered.
-abbrev pub FirstFault : List ℕ → CallerFault → Waiting → Type 0
-FirstFault bytes fault z = (f : model.CallerFault) × (opened z bytes ≡ Err f) × (fault ≡ fault_of f)
-
-pub wrong_is : (z : Waiting) (bytes : List ℕ) (fault : CallerFault) → FirstFault bytes fault z → wrong (z, fault) ≡ opening_of z (opened z bytes)
+pub wrong_is : (z : Waiting) (bytes : List ℕ) (fault : CallerFault) → HasFirstFault z bytes fault → wrong (z, fault) ≡ opening_of z (opened z bytes)
 wrong_is z bytes fault f = ap (λ (x : CallerFault). wrong (z, x)) f.2 ∙ sym (ap (opening_of z) f.1)
 
 -- ---- what decoding answers
@@ -250,44 +238,29 @@ reply_opened z bytes body auths s =
     (spells_read buffer buffer_sound (response z.code) bytes (done_with (record { body = body; auths = auths })) s.spells)
 
 -- what is none has the fault that is told.
-pub told_first : (z : Waiting) (bytes : List ℕ) (fault : CallerFault) → IsTold z.code bytes (Some fault) → FirstFault bytes fault z
+pub told_first : (z : Waiting) (bytes : List ℕ) (fault : CallerFault) → IsTold z.code bytes (Some fault) → HasFirstFault z bytes fault
 told_first z bytes (faults.Refused refusal) told = (Refused refusal, ap (opened_response z) told, refl)
 told_first z bytes (faults.Code error) told = (Code error, ap (opened_response z) told, refl)
 told_first z bytes faults.NotExpected told = absurd told
 told_first z bytes faults.WrongMac told = absurd told
 
--- what is found in the session of a reply, in each part
-pub implied : {A E : Type 0} (P Q : A → Type 0) (r : Result A E) → ((x : A) → P x → Q x) → IfOk r P → IfOk r Q
-implied P Q (Ok x) f p = f x p
-implied P Q (Err e) f p = tt
-
-pub implied_err : {A E : Type 0} (P Q : E → Type 0) (r : Result A E) → ((e : E) → P e → Q e) → IfErr r P → IfErr r Q
-implied_err P Q (Ok x) f p = tt
-implied_err P Q (Err e) f p = f e p
-
--- The session of a reply opens with this nonceTPM, and so does the reply.
-abbrev pub SessionOpens : Waiting → ReplyBody → List AuthReply → List ℕ → Type 0
-SessionOpens z body auths nonce =
-    opened_session z body auths ≡ Ok (record { caller = caller_with z nonce; response = done_with (record { body = body; auths = auths }) })
-
+-- The bytes are opened, and leave a caller with this nonceTPM.
 abbrev pub Opens : Waiting → List ℕ → List ℕ → Type 0
 Opens z bytes nonce = (x : Opened) × (opened z bytes ≡ Ok x) × (x.caller ≡ caller_with z nonce)
 
-pub opens_so : (z : Waiting) (bytes nonce : List ℕ) (body : ReplyBody) (auths : List AuthReply)
-    → IsSpelledBy bytes z.code body auths → SessionOpens z body auths nonce → Opens z bytes nonce
-opens_so z bytes nonce body auths s opens = (
+-- A reply is opened as its session is,
+pub opens_so : (z : Waiting) (bytes nonce : List ℕ) → IsTold z.code bytes None → OpensWith z bytes nonce → Opens z bytes nonce
+opens_so z bytes nonce (body, auths, s) opens = (
   record { caller = caller_with z nonce; response = done_with (record { body = body; auths = auths }) },
-  reply_opened z bytes body auths s ∙ opens,
+  reply_opened z bytes body auths s ∙ opens body auths s,
   refl,
 )
 
--- The session of a reply has this fault, and so has the reply.
-abbrev pub SessionFails : Waiting → ReplyBody → List AuthReply → CallerFault → Type 0
-SessionFails z body auths fault = (f : model.CallerFault) × (opened_session z body auths ≡ Err f) × (fault ≡ fault_of f)
-
-pub fails_so : (z : Waiting) (bytes : List ℕ) (fault : CallerFault) (body : ReplyBody) (auths : List AuthReply)
-    → IsSpelledBy bytes z.code body auths → SessionFails z body auths fault → FirstFault bytes fault z
-fails_so z bytes fault body auths s f = (f.0, reply_opened z bytes body auths s ∙ f.1, f.2)
+-- and has the fault that its session has.
+pub fails_so : (z : Waiting) (bytes : List ℕ) (fault : CallerFault) → IsTold z.code bytes None → HasFault z bytes fault → HasFirstFault z bytes fault
+fails_so z bytes fault (body, auths, s) fails =
+    let f = fails body auths s in
+    (f.0, reply_opened z bytes body auths s ∙ f.1, f.2)
 
 -- A reply does not say that the command was refused.
 pub reply_no_refusal : (z : Waiting) (bytes : List ℕ) → IsTold z.code bytes None → given_up z bytes ≡ None

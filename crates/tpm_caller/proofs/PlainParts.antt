@@ -1,13 +1,15 @@
 -- Where the handles and the parameters of a command lie in its bytes.
-use Rattle.std.proofs.Common.{◌≡◌, ◌≤◌, ℕ, ◌+◌, ◌-◌, ◌*◌, true, false, List, [], ◌∷◌, ◌++◌, length, take, drop, Option, Some}
-use Rattle.std.proofs.Common.{None, Result, Ok, Err, refl, sym, ap, ◌∙◌, subst, arith, length-append}
+use Rattle.std.proofs.Common.{rules, ◌≡◌, ◌≤◌, ◌<◌, ◌==◌, ℕ, ◌+◌, ◌-◌, ◌*◌, ◌/◌, ◌^◌, Bool, true, false, List, [], ◌∷◌, ◌++◌}
+use Rattle.std.proofs.Common.{length, take, drop, Option, Some, None, Result, Ok, Err, refl, sym, ap, ◌∙◌, subst, arith, length-append}
+use Rattle.std.proofs.Common.{if◌then◌else◌}
+use Rattle.std.proofs.lemmas.Bool.{eqb-true}
 use Rattle.std.proofs.lemmas.List.{append-nil, take_at, drop_at}
 use Rattle.tpm_wire.specs.declared.refusal.Refusal.{Refusal}
 use Rattle.tpm_wire.specs.Buffers.{buffer, later_refusal}
 use Rattle.tpm_wire.specs.Layout.{cut}
 use Rattle.tpm_wire.specs.Path.{Fault}
 use Rattle.tpm_wire.specs.Reading.{read_all}
-use Rattle.tpm_wire.specs.Spelling.{spelling}
+use Rattle.tpm_wire.specs.Spelling.{spelling, Fits}
 use Rattle.tpm_wire.proofs.Buffers.{buffer_sound}
 use Rattle.tpm_wire.proofs.Whole.{spells_read, read_spells, fault_read, read_fault}
 use Rattle.tpm_types.specs.declared.command_code.CommandCode.{CommandCode}
@@ -15,7 +17,7 @@ use Rattle.tpm_commands.specs.declared.command_handles.HandleKind.{HandleKind}
 use Rattle.tpm_commands.specs.declared.command.Command.{Command}
 use Rattle.tpm_commands.specs.declared.command.CommandBody.{CommandBody}
 use Rattle.tpm_commands.specs.declared.command_parameters.Params.{Params}
-use Rattle.tpm_commands.specs.Handles.{handles, handles_from, handle_kinds, needs_authorization, AreAdmitted}
+use Rattle.tpm_commands.specs.Handles.{admits, handles, handles_from, handle_kinds, needs_authorization, AreAdmitted}
 use Rattle.tpm_commands.specs.Parameters.{params_code, parameters}
 use Rattle.tpm_commands.proofs.EachCommand.{handles_again, params_again}
 use Rattle.tpm_buffer.specs.Commands.{header, authorization, body_from, code_for, handles_of, params_of}
@@ -23,8 +25,9 @@ use Rattle.tpm_buffer.specs.Commands.{with_auths, before_params, command}
 use Rattle.tpm_buffer.specs.CommandAreas.{Cut, HasCut, IsSpelledBy}
 use Rattle.tpm_buffer.proofs.Staged.{of_before, of_parts, of_params}
 use Rattle.tpm_model.specs.Callers.{command_params}
-use Rattle.tpm_caller.specs.Plain.{body_in, AreParams, PlainParts, handle_bytes, parts_in}
+use Rattle.tpm_caller.specs.Plain.{body_in, PartsFit, PlainParts, handle_bytes, parts_in}
 use Rattle.tpm_caller.proofs.HmacPlace.{header_long}
+use Rattle.tpm_caller.specs.inner.Placing.{AreParams}
 
 -- ---- bytes that are no command
 
@@ -149,3 +152,42 @@ not_needed bytes x p code h same_code not =
     let o = is_of bytes x p h in
     let free : needs_authorization (code_for (body_from x.handles p)) ≡ false = ap needs_authorization (o.code_is ∙ sym same_code) ∙ not in
     sym (ap parts_read (is_command bytes x p h) ∙ rw free refl)
+
+-- ---- its parts have spellings
+
+kind_small : (n k : ℕ) → (n / 0x1000000 == k) ≡ true → k < 4 → n < 256 ^ 4
+kind_small n k is few = let at : n / 0x1000000 ≡ k = eqb-true (n / 0x1000000) k is in omega (arith, at, few)
+
+number_small : (n k : ℕ) → (n == k) ≡ true → k < 256 ^ 4 → n < 256 ^ 4
+number_small n k is few = let at : n ≡ k = eqb-true n k is in omega (arith, at, few)
+
+-- A number that a handle of the kind may have has four bytes.
+admitted_small : (kind : HandleKind) (n : ℕ) → admits kind n ≡ true → n < 256 ^ 4
+admitted_small kind n is = search rules
+
+admitted_fits : (i : ℕ) (ks : List HandleKind) (hs : List ℕ) → AreAdmitted ks hs → (left : ℕ) → Fits left (handles_from i ks) hs
+admitted_fits i [] hs is left = is
+admitted_fits i (k ∷ ks) [] none left = absurd none
+admitted_fits i (k ∷ ks) (h ∷ hs) is left = (
+  (admitted_small k h is.0, rw is.0 refl),
+  (admitted_fits (i + 1) ks hs is.1 _, refl),
+)
+
+the_body : (needs : Bool) (one other : CommandBody) → (if needs then Some one else None) ≡ Some other → one ≡ other
+the_body true one other is = cc
+the_body false one other is = absurd (let z : ⊥ = cc in z)
+
+-- Those of a command that is read have spellings, and make it again.
+pub parts_fit : (bytes : List ℕ) (x : Cut) (p : Params) → HasParams bytes x p → (body : CommandBody)
+    → body_in (read_all command bytes) ≡ Some body → PartsFit body
+parts_fit bytes x p h body is =
+    let made = body_from x.handles p in
+    let o = is_of bytes x p h in
+    let same : made ≡ body = the_body (needs_authorization (code_for made)) made body (ap body_in (sym (is_command bytes x p h)) ∙ is) in
+    let params : params_of made ≡ p = params_again p x.handles in
+    subst PartsFit same (record {
+      handles = λ left.
+          rw (o.code_is, o.handles_are) (admitted_fits 1 (handle_kinds x.header.code) x.handles h.spelled.admitted left);
+      params = λ left. rw (o.code_is, params) (h.are.fits left);
+      whole = rw (o.handles_are, params) refl;
+    })

@@ -1,5 +1,5 @@
 -- What is written behind the handles of a command makes it the sealed command.
-use Rattle.std.proofs.Common.{◌≡◌, ℕ, ◌+◌, List, [], ◌∷◌, ◌++◌, length, sym, subst, ap, ◌∙◌, arith}
+use Rattle.std.proofs.Common.{◌≡◌, ℕ, ◌+◌, List, [], ◌∷◌, ◌++◌, length, refl, sym, subst, ap, ◌∙◌, arith}
 use Rattle.std.proofs.Common.{append_assoc, length-append}
 use Rattle.std.proofs.lemmas.List.{append-nil}
 use Rattle.std.specs.Int.{bytes_high_first}
@@ -82,7 +82,7 @@ spliced p a =
     (bytes_high_first 2 (length a.hmac)) a.hmac p.params
     ∙ sym (joined_is p a)
 
-pub written : (q p : PlainParts) (a : Auth) (old new : List ℕ) (code session attrs count : ℕ) → q ≡ p → code ≡ code_number q.code
+written : (q p : PlainParts) (a : Auth) (old new : List ℕ) (code session attrs count : ℕ) → q ≡ p → code ≡ code_number q.code
     → session ≡ a.session → attrs ≡ a.attrs → IsAtFront (text q a code session attrs) old new count
     → IsAtFront (joined p.code p.handles (spelling auth_command a) p.params) old new count
 written q p a old new code session attrs count is c n t front =
@@ -92,6 +92,20 @@ written q p a old new code session attrs count is c n t front =
     ∙ ap (text q a (code_number q.code) a.session) t in
     subst (λ (r : PlainParts). IsAtFront (joined r.code r.handles (spelling auth_command a) r.params) old new count) is
     (subst (λ (l : List ℕ). IsAtFront l old new count) (same ∙ spliced q a) front)
+
+-- The same, where the numbers lie in these bytes.
+pub written_in : (q p : PlainParts) (a : Auth) (old new : List ℕ) (code session attrs count : ℕ)
+    (tag size coded area number nonce_len attrs_byte mac_len : List ℕ) → tag ≡ bytes_high_first 2 0x8002
+    → size ≡ bytes_high_first 4 (14 + length q.handles + session_size a + length q.params) → coded ≡ bytes_high_first 4 code
+    → area ≡ bytes_high_first 4 (session_size a) → number ≡ bytes_high_first 4 session → nonce_len ≡ bytes_high_first 2 (length a.nonce)
+    → attrs_byte ≡ bytes_high_first 1 attrs → mac_len ≡ bytes_high_first 2 (length a.hmac)
+    → q ≡ p → code ≡ code_number q.code → session ≡ a.session → attrs ≡ a.attrs
+    → IsAtFront (in_turn tag size coded q.handles area number nonce_len a.nonce attrs_byte mac_len a.hmac q.params) old new count
+    → IsAtFront (joined p.code p.handles (spelling auth_command a) p.params) old new count
+written_in q p a old new code session attrs count tag size coded area number nonce_len attrs_byte mac_len t z o r m n b k is c i j front =
+    let same : in_turn tag size coded q.handles area number nonce_len a.nonce attrs_byte mac_len a.hmac q.params ≡ text q a code session attrs =
+    rw (t, z, o, r, m, n, b, k) refl in
+    written q p a old new code session attrs count is c i j (subst (λ (l : List ℕ). IsAtFront l old new count) same front)
 
 -- ---- the sealed command
 

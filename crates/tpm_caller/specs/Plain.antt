@@ -1,16 +1,13 @@
 -- A command as it is handed in to be sealed: without its sessions.
-use Rattle.std.specs.Prelude.{◌≡◌, ◌≤◌, ℕ, List, ◌++◌, length, drop, Option, Some, None, Result, Ok, Err, if◌then◌else◌}
+use Rattle.std.specs.Prelude.{◌≡◌, ℕ, List, ◌++◌, length, drop, Option, Some, None, Result, Ok, Err, if◌then◌else◌}
 use Rattle.tpm_wire.specs.declared.refusal.Refusal.{Refusal}
-use Rattle.tpm_wire.specs.Reading.{read_all}
-use Rattle.tpm_wire.specs.Spelling.{spelling}
-use Rattle.tpm_commands.specs.Limits.{most_params}
+use Rattle.tpm_wire.specs.Spelling.{spelling, Fits}
 use Rattle.tpm_types.specs.declared.command_code.CommandCode.{CommandCode}
 use Rattle.tpm_commands.specs.declared.command.Command.{Command}
 use Rattle.tpm_commands.specs.declared.command.CommandBody.{CommandBody}
-use Rattle.tpm_commands.specs.declared.command_parameters.Params.{Params}
 use Rattle.tpm_commands.specs.Handles.{handles, needs_authorization}
-use Rattle.tpm_commands.specs.Parameters.{params_code, parameters}
-use Rattle.tpm_buffer.specs.Commands.{code_for, handles_of}
+use Rattle.tpm_commands.specs.Parameters.{parameters}
+use Rattle.tpm_buffer.specs.Commands.{body_from, code_for, handles_of, params_of}
 use Rattle.tpm_model.specs.Callers.{command_params, Waiting}
 use Rattle.tpm_caller.specs.Sent.{Sent}
 
@@ -35,12 +32,11 @@ abbrev pub parts_in : Option CommandBody → Option PlainParts
 parts_in (Some body) = Some (parts_of body)
 parts_in None = None
 
--- The bytes are these parameters of a command with this code, spelled as they are.
-pub record AreParams (code : CommandCode) (bytes : List ℕ) (p : Params) : Type 0 where
-  pub read : read_all (parameters code) bytes ≡ Ok p
-  pub code_is : params_code p ≡ code
-  pub spelled : bytes ≡ spelling (parameters code) p
-  pub short : length bytes ≤ most_params
+-- The handles and the parameters of a command have spellings, whatever is left, and make it again.
+pub record PartsFit (body : CommandBody) : Type 0 where
+  pub handles : (left : ℕ) → Fits left (handles (code_for body)) (handles_of body)
+  pub params : (left : ℕ) → Fits left (parameters (code_for body)) (params_of body)
+  pub whole : body_from (handles_of body) (params_of body) ≡ body
 
 -- ---- in a room of the caller's
 
@@ -48,11 +44,6 @@ pub record AreParams (code : CommandCode) (bytes : List ℕ) (p : Params) : Type
 -- bytes.
 abbrev pub IsAtFront : (text old new : List ℕ) → ℕ → Type 0
 IsAtFront text old new count = (new ≡ text ++ drop (length text) old) × (count ≡ length text)
-
--- What stands there, and the count, grow by these bytes.
-abbrev pub Appends : List ℕ → (before after : List ℕ × ℕ) → Type 0
-Appends bytes before after =
-    (front old : List ℕ) → IsAtFront front old before.0 before.1 → IsAtFront (front ++ bytes) old after.0 after.1
 
 -- What was sealed waits for its reply, and its bytes are there.
 abbrev pub IsSentFrom : Sent → (old new : List ℕ) → Waiting × ℕ → Type 0

@@ -1,9 +1,9 @@
 //! A session, as its caller holds it.
 
-ghost use Rattle.std.specs.Prelude.{◌≡◌, ◌∷◌, [], ◌+◌, ◌*◌, ◌≤◌, ◌++◌, true, length, drop};
-ghost use Rattle.std.specs.Int.{to_be_bytes, w8, w16, w32};
+ghost use Rattle.std.specs.Prelude.{◌≡◌, ◌∷◌, [], ◌+◌, ◌*◌, ◌^◌, ◌<◌, ◌≤◌, ◌++◌, true, length, drop};
 ghost use Rattle.tpm_types.specs.declared.tpms.Auth.{Auth as AuthOf};
 ghost use Rattle.tpm_types.specs.Alg.{digest_len};
+ghost use Rattle.tpm_types.specs.Handles.{is_session};
 ghost use Rattle.tpm_types.specs.Limits.{block_bytes, digest_bytes};
 ghost use Rattle.tpm_types.specs.CommandCodes.{code_number};
 ghost use Rattle.tpm_commands.specs.declared.command.CommandBody.{CommandBody as CommandBodyOf};
@@ -15,9 +15,9 @@ ghost use Rattle.tpm_buffer.specs.Parts.{joined as joined_of};
 ghost use Rattle.tpm_hmac.specs.Hmac.{hmac};
 ghost use Rattle.tpm_hmac.specs.Sessions.{session_key as session_key_of, whole_key, cp_hash as cp_hash_of, mac_text};
 ghost use Rattle.tpm_model.specs.Callers.{started_with, bound_to, attrs_for as attrs_of, with_nonce};
-ghost use Rattle.tpm_model.specs.Premises.{HasSpelling};
-ghost use Rattle.tpm_caller.specs.Sent.{sent, hmac_key, hmac_at, with_hmac};
-ghost use Rattle.tpm_caller.specs.Plain.{parts_of, IsAtFront, Appends, IsSentFrom};
+ghost use Rattle.tpm_caller.specs.Sent.{sent, IsSpelled, hmac_key};
+ghost use Rattle.tpm_caller.specs.Plain.{parts_of, PartsFit, IsAtFront, IsSentFrom};
+ghost use Rattle.tpm_caller.specs.inner.Placing.{hmac_at, with_hmac, Appends};
 
 use crate::pending::Pending;
 use crate::plain::Plain;
@@ -116,34 +116,6 @@ fn append(out: &mut [u8], written: usize, bytes: &[u8]) -> usize
     let end = written + bytes.len();
     out[written..end].copy_from_slice(bytes);
     end
-}
-
-// The same of a number's bytes, the highest first.
-fn append_u8(out: &mut [u8], written: usize, number: u8) -> usize
-    requires { written + 1 ≤ length out.old }
-    ensures bytes { Appends (to_be_bytes w8 number) (out.old, written) (out.new, result) }
-    ensures count { result ≡ written + 1 }
-    ensures room { length out.new ≡ length out.old }
-{
-    append(out, written, &number.to_be_bytes())
-}
-
-fn append_u16(out: &mut [u8], written: usize, number: u16) -> usize
-    requires { written + 2 ≤ length out.old }
-    ensures bytes { Appends (to_be_bytes w16 number) (out.old, written) (out.new, result) }
-    ensures count { result ≡ written + 2 }
-    ensures room { length out.new ≡ length out.old }
-{
-    append(out, written, &number.to_be_bytes())
-}
-
-fn append_u32(out: &mut [u8], written: usize, number: u32) -> usize
-    requires { written + 4 ≤ length out.old }
-    ensures bytes { Appends (to_be_bytes w32 number) (out.old, written) (out.new, result) }
-    ensures count { result ≡ written + 4 }
-    ensures room { length out.new ≡ length out.old }
-{
-    append(out, written, &number.to_be_bytes())
 }
 
 impl Caller {
@@ -314,8 +286,8 @@ impl Caller {
     /// `CommandCode::handles` of its code says (law `as_many_handles`). `auth` is what follows the session key in
     /// that of the HMAC: the authorization value of what the first handle names, whose trailing zeros do not count,
     /// or nothing where the rules leave it out. `nonce` is nonceCaller, a fresh random one; with `keep` the session
-    /// goes on after the command (continueSession). The HMAC is always there (Part 1, "Session-Based
-    /// Authorizations").
+    /// goes on after the command (continueSession). The HMAC is always there, and the bytes spell the command (Part 1,
+    /// "Session-Based Authorizations").
     pub fn seal(
         self,
         body: CommandBody<'_>,
@@ -336,7 +308,7 @@ impl Caller {
               nonce = nonce;
               keep = keep;
             }) }
-        ensures spelled { HasSpelling
+        ensures spelled { IsSpelled
             (record {
               caller = self;
               body = body.entry;
@@ -374,7 +346,7 @@ impl Caller {
               nonce = nonce;
               keep = keep;
             }) }
-        ensures spelled { HasSpelling
+        ensures spelled { IsSpelled
             (record {
               caller = self;
               body = body.entry;
@@ -429,27 +401,30 @@ impl Caller {
               attrs = attrs;
               hmac = mac.now;
             })) plain.now.params) out.old out.new result }
+        ensures session { is_session self.now.handle ≡ true }
+        ensures number { self.now.handle < 2 ^ 32 }
         ensures few { result ≤ 4096 }
     {
         let session = 9 + nonce.len() + mac.len();
         let size = 14 + plain.handles.len() + session + plain.params.len();
-        let len = append_u16(out, 0, SESSIONS);
-        let len = append_u32(out, len, size as u32);
-        let len = append_u32(out, len, plain.code.number());
+        let len = append(out, 0, &SESSIONS.to_be_bytes());
+        let len = append(out, len, &(size as u32).to_be_bytes());
+        let len = append(out, len, &plain.code.number().to_be_bytes());
         let len = append(out, len, plain.handles);
-        let len = append_u32(out, len, session as u32);
-        let len = append_u32(out, len, self.handle.number());
-        let len = append_u16(out, len, nonce.len() as u16);
+        let len = append(out, len, &(session as u32).to_be_bytes());
+        let len = append(out, len, &self.handle.number().to_be_bytes());
+        let len = append(out, len, &(nonce.len() as u16).to_be_bytes());
         let len = append(out, len, nonce);
-        let len = append_u8(out, len, attrs.number());
-        let len = append_u16(out, len, mac.len() as u16);
+        let len = append(out, len, &attrs.number().to_be_bytes());
+        let len = append(out, len, &(mac.len() as u16).to_be_bytes());
         let len = append(out, len, mac);
         append(out, len, plain.params)
     }
 
     /// As `seal`, of a command in bytes: its handles and its parameters are copied from where they lie, and the session
     /// is written behind the handles. The sealed command stands at the beginning of `out`, which has room for at least
-    /// 4,096 bytes. What is answered opens its reply, and says how many bytes the command has.
+    /// 4,096 bytes, and is spelled by its bytes, since what `Plain::read` reads has spellings. What is answered opens
+    /// its reply, and says how many bytes the command has.
     pub fn seal_plain(
         self,
         plain: &Plain<'_>,
@@ -471,6 +446,16 @@ impl Caller {
               nonce = nonce;
               keep = keep;
             })) out.old out.new result }
+        ensures spelled { (body : CommandBodyOf) → plain.now ≡ parts_of body → PartsFit body →
+            IsSpelled
+            (record {
+              caller = self;
+              body = body;
+              names = names.now;
+              auth = auth.now;
+              nonce = nonce;
+              keep = keep;
+            }) }
         ensures few { result.1 ≤ 4096 }
     {
         let mut key = Bounded::default();

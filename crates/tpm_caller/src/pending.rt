@@ -1,15 +1,15 @@
 //! What is kept of a sealed command until its reply comes.
 
-ghost use Rattle.std.specs.Prelude.{◌≡◌, ◌≤◌, ◌<◌, ◌^◌, ◌++◌, ℕ, true, List, length, Some, None, Ok, Err, IfOk, IfErr};
+ghost use Rattle.std.specs.Prelude.{◌≡◌, ◌≤◌, ◌<◌, ◌^◌, ◌++◌, ℕ, true, length, Some, None, Ok, IfOk, IfErr};
 ghost use Rattle.std.specs.Prelude.{if◌then◌else◌};
 ghost use Rattle.std.specs.Int.{bytes_high_first};
 ghost use Rattle.tpm_types.specs.Limits.{digest_bytes};
-ghost use Rattle.tpm_types.specs.declared.tpms.AuthReply.{AuthReply};
-ghost use Rattle.tpm_commands.specs.declared.response.ReplyBody.{ReplyBody};
-ghost use Rattle.tpm_buffer.specs.Responses.{code_tag, done_with};
-ghost use Rattle.tpm_model.specs.Callers.{CallerFault as Fault, Opened, opened, opened_session, given_up};
-ghost use Rattle.tpm_caller.specs.Faults.{fault_of, opening_of, giving_up_of};
-ghost use Rattle.tpm_caller.specs.Sent.{caller_with, has_no_params as has_no_params_of, IsSpelledBy, IsTold};
+ghost use Rattle.tpm_buffer.specs.Responses.{code_tag};
+ghost use Rattle.tpm_model.specs.Callers.{Opened, opened, given_up};
+ghost use Rattle.tpm_caller.specs.Faults.{opening_of, giving_up_of, HasFirstFault};
+ghost use Rattle.tpm_caller.specs.Sent.{caller_with};
+ghost use Rattle.tpm_caller.specs.inner.Finding.{has_no_params as has_no_params_of, HasFault, IsFound, IsTold};
+ghost use Rattle.tpm_caller.specs.inner.Finding.{OpensWith};
 
 use crate::caller::Caller;
 use crate::waiting::CallerFault;
@@ -43,6 +43,17 @@ impl Model for Pending {
         { caller = w.caller; code = w.code; key = w.key; nonce = w.nonce; keep = w.keep } };
 
     ghost invariant = { λ w. needs_authorization w.code ≡ true };
+}
+
+// What is found in the session of a reply, where the bytes may be none.
+#[derive(Clone, Copy)]
+enum Found<'a> {
+    // If they are a reply: its nonceTPM, as there is one session, with a nonceTPM of the session's length and the HMAC.
+    Nonce(&'a [u8]),
+    // If they are a reply: its first fault.
+    Fault(CallerFault),
+    // The first fault of the bytes, whatever they are.
+    FirstFault(CallerFault),
 }
 
 // The command is sent in a session and answered without parameters (Part 3, the response table of each).
@@ -99,39 +110,24 @@ fn no_reply(code: CommandCode, bytes: &[u8]) -> Option<CallerFault>
 }
 
 impl Pending {
-    // What is found in the session of a reply, if the bytes are one: its nonceTPM, where there is one session, with a
-    // nonceTPM of the session's length and the HMAC; or else the reply's fault. Nothing is copied. What a reply without
-    // parameters spells is known: its first fault is answered, and it need not be read again.
+    // What is found in the session of a reply. Nothing is copied. What a reply without parameters spells is known: its
+    // first fault is found, and it need not be read again.
     #[inline(never)]
-    fn check<'a>(&self, bytes: &'a [u8]) -> Result<Result<&'a [u8], CallerFault>, CallerFault>
-        ensures opens { IfOk result (λ found. (body : ReplyBody) (auths : List AuthReply)
-            → IsSpelledBy bytes.now self.now.code body auths →
-            IfOk found (λ nonce. opened_session self.now body auths ≡ Ok (record {
-              caller = caller_with self.now nonce.now;
-              response = done_with (record { body = body; auths = auths });
-            }))) }
-        ensures fails { IfOk result (λ found. (body : ReplyBody) (auths : List AuthReply)
-            → IsSpelledBy bytes.now self.now.code body auths →
-            IfErr found
-            (λ fault. (f : Fault) × (opened_session self.now body auths ≡ Err f)
-            × (fault ≡ fault_of f))) }
-        ensures first { IfErr result
-            (λ fault. (f : Fault) × (opened self.now bytes.now ≡ Err f) × (fault ≡ fault_of f)) }
-        ensures fits { IfOk result
-            (λ found. IfOk found (λ nonce. length nonce.now ≤ digest_bytes)) }
+    fn check<'a>(&self, bytes: &'a [u8]) -> Found<'a>
+        ensures { IsFound self.now bytes.now result }
     {
         let Ok(areas) = reply_areas(self.code, bytes) else {
-            return Ok(Err(CallerFault::NotExpected));
+            return Found::Fault(CallerFault::NotExpected);
         };
         if areas.auth_count() != 1 {
-            return Ok(Err(CallerFault::NotExpected));
+            return Found::Fault(CallerFault::NotExpected);
         }
         let Some(session) = areas.auth(0) else {
-            return Ok(Err(CallerFault::NotExpected));
+            return Found::Fault(CallerFault::NotExpected);
         };
         let nonce = session.nonce();
         if nonce.len() != self.caller.nonce().len() {
-            return Ok(Err(CallerFault::NotExpected));
+            return Found::Fault(CallerFault::NotExpected);
         }
         let hash = self.caller.hash();
         let params = areas.params();
@@ -143,20 +139,18 @@ impl Pending {
             session.attrs(),
         );
         if same(session.hmac(), mac.as_slice()) {
-            return Ok(Ok(nonce));
+            return Found::Nonce(nonce);
         }
         if has_no_params(self.code) && params.is_empty() {
-            return Err(CallerFault::WrongMac);
+            return Found::FirstFault(CallerFault::WrongMac);
         }
-        Ok(Err(CallerFault::WrongMac))
+        Found::Fault(CallerFault::WrongMac)
     }
 
-    // The first fault of bytes, of which `check` finds this one if they are a reply.
+    // The first fault of bytes that have this one if they are a reply.
     fn first_fault(&self, bytes: &[u8], checked: CallerFault) -> CallerFault
-        requires { (body : ReplyBody) (auths : List AuthReply)
-            → IsSpelledBy bytes.now self.now.code body auths →
-            (f : Fault) × (opened_session self.now body auths ≡ Err f) × (checked ≡ fault_of f) }
-        ensures { (f : Fault) × (opened self.now bytes.now ≡ Err f) × (result ≡ fault_of f) }
+        requires { HasFault self.now bytes.now checked }
+        ensures { HasFirstFault self.now bytes.now result }
     {
         match no_reply(self.code, bytes) {
             None => checked,
@@ -197,17 +191,16 @@ impl Pending {
             (λ nonce. (x : Opened)
             × (opened self.now bytes.now ≡ Ok x)
             × (x.caller ≡ caller_with self.now nonce.now)) }
-        ensures err { IfErr result
-            (λ fault. (f : Fault) × (opened self.now bytes.now ≡ Err f) × (fault ≡ fault_of f)) }
+        ensures err { IfErr result (HasFirstFault self.now bytes.now) }
         ensures fits { IfOk result (λ nonce. length nonce.now ≤ digest_bytes) }
     {
-        let found = match self.check(bytes) {
-            Ok(found) => found,
-            Err(fault) => return Err(fault),
-        };
-        match no_reply(self.code, bytes) {
-            None => found,
-            Some(fault) => Err(fault),
+        match self.check(bytes) {
+            Found::Nonce(nonce) => match no_reply(self.code, bytes) {
+                None => Ok(nonce),
+                Some(fault) => Err(fault),
+            },
+            Found::Fault(fault) => Err(self.first_fault(bytes, fault)),
+            Found::FirstFault(fault) => Err(fault),
         }
     }
 
@@ -219,12 +212,7 @@ impl Pending {
         bytes: &[u8],
         nonce: &[u8],
     ) -> Result<(Option<Caller>, Response), (Pending, CallerFault)>
-        requires checked { (body : ReplyBody) (auths : List AuthReply)
-            → IsSpelledBy bytes.now self.code body auths →
-            opened_session self body auths ≡ Ok (record {
-              caller = caller_with self nonce.now;
-              response = done_with (record { body = body; auths = auths });
-            }) }
+        requires opens { OpensWith self bytes.now nonce.now }
         requires fits { length nonce.now ≤ digest_bytes }
         ensures { result ≡ opening_of self (opened self bytes.now) }
     {
@@ -249,16 +237,13 @@ impl Pending {
     pub fn open(self, bytes: &[u8]) -> Result<(Option<Caller>, Response), (Pending, CallerFault)>
         ensures { result ≡ opening_of self (opened self bytes.now) }
     {
-        let found = match self.check(bytes) {
-            Ok(found) => found,
-            Err(fault) => return Err((self, fault)),
-        };
-        match found {
-            Ok(nonce) => self.accept(bytes, nonce),
-            Err(fault) => {
+        match self.check(bytes) {
+            Found::Nonce(nonce) => self.accept(bytes, nonce),
+            Found::Fault(fault) => {
                 let first = self.first_fault(bytes, fault);
                 Err((self, first))
             }
+            Found::FirstFault(fault) => Err((self, fault)),
         }
     }
 

@@ -1,13 +1,15 @@
 //! A command as it is handed in to be sealed: without its sessions.
 
-ghost use Rattle.std.specs.Prelude.{◌≡◌, ◌≤◌, ◌+◌, ◌*◌, true, false, length, take, drop, OnOk, Err};
+ghost use Rattle.std.specs.Prelude.{◌≡◌, ◌≤◌, ◌+◌, ◌*◌, true, false, length, take, drop, Some, IfSome, OnOk, Err};
 ghost use Rattle.tpm_wire.specs.declared.refusal.Refusal.{Refusal as RefusalOf};
 ghost use Rattle.tpm_wire.specs.Reading.{read_all, Gives};
 ghost use Rattle.tpm_wire.specs.Spelling.{spelling};
+ghost use Rattle.tpm_commands.specs.declared.command.CommandBody.{CommandBody as CommandBodyOf};
 ghost use Rattle.tpm_commands.specs.declared.command_parameters.Params.{Params};
 ghost use Rattle.tpm_commands.specs.Parameters.{parameters, params_code};
 ghost use Rattle.tpm_buffer.specs.Commands.{command as command_layout, code_for, params_of};
-ghost use Rattle.tpm_caller.specs.Plain.{body_in, parts_in, AreParams};
+ghost use Rattle.tpm_caller.specs.Plain.{body_in, parts_in, PartsFit};
+ghost use Rattle.tpm_caller.specs.inner.Placing.{AreParams};
 
 use std::marker::Model;
 use tpm_buffer::areas;
@@ -97,7 +99,10 @@ impl<'a> Plain<'a> {
     /// The command in these bytes, where they spell one whose first handle needs authorization. It may have sessions,
     /// which are not looked at further.
     pub fn read(bytes: &'a [u8]) -> Option<Self>
-        ensures { result ≡ parts_in (body_in (read_all command_layout bytes.now)) }
+        ensures parts { result ≡ parts_in (body_in (read_all command_layout bytes.now)) }
+        ensures fit { IfSome result (λ _. (body : CommandBodyOf) →
+            body_in (read_all command_layout bytes.now) ≡ Some body →
+            PartsFit body) }
     {
         let Ok(areas) = areas(bytes) else {
             return None;

@@ -1,13 +1,13 @@
 -- Lists of registers whose lines are compared one after the other.
 use Rattle.std.proofs.Common.{◌≡◌, ℕ, Bool, true, ◌+◌, ◌<◌, ◌≤◌, false, List, [], ◌∷◌, ◌++◌, length, take, Option, Some, None}
-use Rattle.std.proofs.Common.{Bor, option_map, refl, sym, ap, subst, ◌∙◌, inl, inr, arith, length-append, length-take-le, position}
+use Rattle.std.proofs.Common.{◌||◌, cond, is_some, Bor, option_map, refl, sym, ap, subst, ◌∙◌, inl, inr, arith, length-append, length-take-le, position}
 use Rattle.std.proofs.lemmas.List.Quantifiers.{position-Some}
-use Rattle.std.proofs.lemmas.List.{take_all}
+use Rattle.std.proofs.lemmas.List.{append-nil, take_all}
 use Rattle.std.proofs.lemmas.Bool.{cases_lt, lt-ltb}
 use Rattle.std.specs.Prelude.{suc, filter, IfSome, ◌≢◌}
 use Rattle.std.specs.Str.{bytes_eq}
 use Rattle.std.specs.Fmt.{digits}
-use Rattle.std.specs.List.{AllByRecursion}
+use Rattle.std.specs.List.{AllByRecursion, list_any}
 use Rattle.std.specs.Io.KnownBytes.{Appends}
 use Rattle.tpm_types.specs.declared.alg.Alg.{Alg}
 use Rattle.tpm_check.specs.declared.beside.Beside.{Beside as InCode}
@@ -16,7 +16,7 @@ use Rattle.tpm_check.specs.declared.stated.TheConstants.{REGISTERS}
 use Rattle.tpm_check.specs.declared.list_lines.Heading.TheVariants.{NoBank}
 use Rattle.tpm_check.specs.declared.list_lines.Heading.{Heading}
 use Rattle.tpm_check.specs.Compare.{Beside, Values, Comparison, ListLine, States, Heads, Passes, Wrong, line_under}
-use Rattle.tpm_check.specs.Compare.{heading_behind, lines_under, is_value}
+use Rattle.tpm_check.specs.Compare.{heading_behind, lines_under, is_statement, is_value, no_register_text, states_any, with_end}
 use Rattle.tpm_check.specs.Compare.{bank_lines, register_line, register_names, register_named, comparison_of}
 use Rattle.tpm_check.specs.Compare.{comparison_from, comparison, status_if, most_line, IsStated}
 use Rattle.tpm_check.specs.Compare.{ReadsList, ReadsTooMuchList}
@@ -202,15 +202,70 @@ right_lines start (line ∷ others) new text (inl f) =
     )
 right_lines start (line ∷ others) new text (inr f) = absurd (not_none new f.0)
 
+-- ---- a register that is stated
+
+or-true : (b : Bool) → (b || true) ≡ true
+or-true true = refl
+or-true false = refl
+
+or-false : (b : Bool) → (b || false) ≡ b
+or-false true = refl
+or-false false = refl
+
+or-assoc : (a b c : Bool) → ((a || b) || c) ≡ (a || (b || c))
+or-assoc true b c = refl
+or-assoc false b c = refl
+
+any_line : (c mid : Comparing) (l : ListLine) → Some mid ≡ line_behind c l → mid.any ≡ (c.any || is_statement l)
+any_line c mid (States s) is = ap (λ (k : Comparing). k.any) (same_some mid (stated_behind c s) is) ∙ sym (or-true c.any)
+any_line c mid (Heads heading) is = ap (λ (k : Comparing). k.any) (same_some mid (record c { heading = heading }) is) ∙ sym (or-false c.any)
+any_line c mid Passes is = ap (λ (k : Comparing). k.any) (same_some mid c is) ∙ sym (or-false c.any)
+any_line c mid Wrong is = absurd (not_none mid is)
+
+any_from : (start : LinesStart Comparing) (lines : List (List ℕ)) (new : Comparing) (text : List ℕ)
+    → TakesFrom Compares start lines (record { left = Some new; text = text })
+    → new.any ≡ (start.sink.any || list_any is_statement (lines_under start.sink.heading lines))
+any_from start [] new text f = ap (λ (k : Comparing). k.any) (same_some new start.sink f.0) ∙ sym (or-false start.sink.any)
+any_from start (line ∷ others) new text (inl f) =
+    let c = start.sink in
+    let l = line_under c.heading line in
+    let rest = λ (heading : Heading). list_any is_statement (lines_under heading others) in
+    any_from (record { number = start.number + 1; sink = f.0 }) others new f.2 f.4
+    ∙ ap (λ (heading : Heading). f.0.any || rest heading) (heading_is c f.0 l f.3.0)
+    ∙ ap (λ (b : Bool). b || rest (heading_behind c.heading l)) (any_line c f.0 l f.3.0)
+    ∙ or-assoc c.any (is_statement l) (rest (heading_behind c.heading l))
+any_from start (line ∷ others) new text (inr f) = absurd (not_none new f.0)
+
+-- ---- the end of a list
+
+module _ (json any : Bool) (c : Comparison) where
+  pub end_status : (before status : Status) → Some before ≡ c.status → status ≡ both before (status_if any)
+      → Some status ≡ (with_end json any c).status
+  end_status before status is same =
+      subst (λ (o : Option Status). Some status ≡ option_map (λ (s : Status). both s (status_if any)) o) is (ap Some same)
+
+  pub end_text : (before : Status) → Some before ≡ c.status → c.text ++ no_register_text json any ≡ (with_end json any c).text
+  end_text before is =
+      subst (λ (o : Option Status). c.text ++ no_register_text json any ≡ c.text ++ cond (is_some o) (no_register_text json any) []) is refl
+
+  pub none_status : None ≡ c.status → None ≡ (with_end json any c).status
+  none_status is = subst (λ (o : Option Status). None ≡ option_map (λ (s : Status). both s (status_if any)) o) is refl
+
+  pub none_text : None ≡ c.status → c.text ≡ (with_end json any c).text
+  none_text is = subst (λ (o : Option Status). c.text ≡ c.text ++ cond (is_some o) (no_register_text json any) []) is (sym (append-nil c.text))
+
 -- ---- the input
 
 -- where no line was compared
 abbrev pub first_of : Bor InCode → Comparing
-first_of found = record { found = found; heading = NoBank; status = Done }
+first_of found = record { found = found; heading = NoBank; status = Done; any = false }
 
-abbrev pub Concludes : Beside → (old new a c : Option (List ℕ)) → Option Status → Type 0
-Concludes b old new a c status =
-    (bytes : List ℕ) × ReadsList b old new bytes × (status ≡ (comparison b bytes).status) × Appends a c (comparison b bytes).text
+abbrev pub Concludes : Beside → (old new a c : Option (List ℕ)) → Option Comparing → Type 0
+Concludes b old new a c left =
+    (bytes : List ℕ) × ReadsList b old new bytes
+    × (option_map (λ (k : Comparing). k.status) left ≡ (comparison b bytes).status)
+    × IfSome left (λ (k : Comparing). k.any ≡ states_any bytes)
+    × Appends a c (comparison b bytes).text
 
 module _ (found : Bor InCode) where
   -- what was printed of a whole list, and the status
@@ -221,6 +276,13 @@ module _ (found : Bor InCode) where
       let all = comparison (told found.now) bytes in
       outcome_from (record { number = 1; sink = first_of found }) (lines_of bytes) (record { left = left; text = text }) f
       ∙ ap (λ (o : Option Status). record { text = all.text; status = o }) (both_none all.status)
+
+  -- whether a line of it states a register
+  any_of : (bytes : List ℕ) (left : Option Comparing) (text : List ℕ)
+      → TakesAll Compares (record { first = first_of found; bytes = bytes; left = left; text = text })
+      → IfSome left (λ (k : Comparing). k.any ≡ states_any bytes)
+  any_of bytes None text f = tt
+  any_of bytes (Some k) text f = any_from (record { number = 1; sink = first_of found }) (lines_of bytes) k text f
 
   -- no line is wrong of what was taken
   stated : (bytes : List ℕ) → GoesOn list_line Compares (first_of found) bytes → IsStated bytes
@@ -268,11 +330,12 @@ module _ (found : Bor InCode) where
   pub answers : (old new a c : Option (List ℕ)) (bytes text : List ℕ) (left : Option Comparing)
       → ReadsLines most_bytes (GoesOn list_line Compares (first_of found)) (record { old = old; new = new; bytes = bytes })
       → IsWhole list_line Compares new (record { first = first_of found; bytes = bytes; left = left; text = text })
-      → Appends a c text → Concludes (told found.now) old new a c (option_map (λ (k : Comparing). k.status) left)
+      → Appends a c text → Concludes (told found.now) old new a c left
   answers old new a c bytes text left f whole added =
       let all : told_of left text ≡ comparison (told found.now) bytes = outcome bytes left text whole.0 in (
         bytes,
         reads_list old new bytes text left f whole,
         ap (λ (d : Comparison). d.status) all,
+        any_of bytes left text whole.0,
         subst (λ (d : Comparison). Appends a c d.text) all added,
       )

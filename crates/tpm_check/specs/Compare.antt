@@ -1,10 +1,10 @@
 -- What `check` prints of registers and of a list of them (this profile).
 use Rattle.std.specs.Prelude.{◌≡◌, ◌≢◌, ◌⊎◌, ℕ, zero, suc, ◌+◌, ◌≤◌, ◌==◌, nat_lt, Bool, true, false, List, [], ◌∷◌}
 use Rattle.std.specs.Prelude.{◌++◌, length, map, position, find, flat_map, codes, Option, Some, None, option_map}
-use Rattle.std.specs.Prelude.{if◌then◌else◌, ◌&&◌, take, drop}
+use Rattle.std.specs.Prelude.{if◌then◌else◌, ◌&&◌, take, drop, is_some}
 use Rattle.std.specs.Str.{bytes_eq}
 use Rattle.std.specs.Fmt.{decimal}
-use Rattle.std.specs.List.{AllByRecursion, before_first, after_first, range_with_len}
+use Rattle.std.specs.List.{AllByRecursion, before_first, after_first, list_any, range_with_len}
 use Rattle.std.specs.Io.KnownBytes.{Consumes, IsAtEnd}
 use Rattle.hex.specs.Hex.{encode_lower}
 use Rattle.tpm_types.specs.declared.alg.Alg.{Alg}
@@ -201,6 +201,14 @@ abbrev pub status_if : Bool → Status
 status_if true = Done
 status_if false = Refused
 
+-- what is printed, and the status for it
+pub record Verdict : Type 0 where
+  pub status : Status
+  pub text : List ℕ
+
+abbrev pub printed : Status → List ℕ → Verdict
+printed status text = record { status = status; text = text }
+
 -- what is printed, and the status, or none where the output has ended
 pub record Comparison : Type 0 where
   pub text : List ℕ
@@ -231,6 +239,34 @@ comparison_from b n (first ∷ others) = comparison_of b n first (comparison_fro
 
 abbrev pub comparison : Beside → List ℕ → Comparison
 comparison b bytes = comparison_from b 1 (lines_under NoBank (lines_of bytes))
+
+-- ---- the end of a list
+
+abbrev pub is_statement : ListLine → Bool
+is_statement (States s) = true
+is_statement _ = false
+
+-- A line states a register, so that something is compared.
+abbrev pub states_any : List ℕ → Bool
+states_any bytes = list_any is_statement (lines_under NoBank (lines_of bytes))
+
+-- where no line does
+abbrev pub no_register_text : (json any : Bool) → List ℕ
+no_register_text json true = []
+no_register_text false false = line (codes "no" ∷ codes "register" ∷ [])
+no_register_text true false = codes "{\"fault\":\"no register\"}\n"
+
+abbrev pub with_end : (json any : Bool) → Comparison → Comparison
+with_end json any c =
+    record {
+      text = c.text ++ (if is_some c.status then no_register_text json any else []);
+      status = option_map (λ status. both status (status_if any)) c.status;
+    }
+
+-- of a whole list, and of none, which says nothing
+abbrev pub compared : Beside → Option (List ℕ) → Comparison
+compared b None = record { text = []; status = Some Done }
+compared b (Some bytes) = with_end b.json (states_any bytes) (comparison b bytes)
 
 -- ---- what is read of a list
 

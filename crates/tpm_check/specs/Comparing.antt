@@ -37,7 +37,10 @@ abbrev pub stated_text : Beside → Stated → List ℕ
 stated_text b s = compared_text b.json (is_value b.value s) s.bank s.register
 
 abbrev pub stated_behind : Comparing → Stated → Comparing
-stated_behind c s = record c { status = status_behind c.status (is_value (told c.found.now).value s) }
+stated_behind c s = record c {
+  status = status_behind c.status (is_value (told c.found.now).value s);
+  any = true;
+}
 
 -- what is printed of the line of this number, which says this, and how the comparison stands behind it, where it is
 -- not wrong

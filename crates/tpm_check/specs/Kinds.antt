@@ -1,5 +1,6 @@
 -- What `explain` prints of the kind of a log's fault (this profile).
-use Rattle.std.specs.Prelude.{◌≡◌, ◌⊎◌, List, ℕ, [], ◌∷◌, ◌++◌, codes}
+use Rattle.std.specs.Prelude.{◌≡◌, ◌⊎◌, List, ℕ, [], ◌∷◌, ◌++◌, codes, find, unwrap_or, Option}
+use Rattle.std.specs.Str.{str_eq_ignore_ascii_case}
 use Rattle.tpm_log.specs.declared.fault.LogFaultKind.{LogFaultKind}
 use Rattle.tpm_log.specs.declared.fault.LogFaultKind.TheVariants as logs
 use Rattle.tpm_secure_boot.specs.declared.verdict.SecureBootFaultKind.{SecureBootFaultKind}
@@ -11,7 +12,7 @@ use Rattle.tpm_output.specs.declared.status.Status.{Status}
 use Rattle.tpm_output.specs.Text.{line}
 use Rattle.tpm_events.specs.LogFaults.{kind_name}
 use Rattle.tpm_check.specs.SecureBootLines.{fault_name}
-use Rattle.tpm_events.specs.SignatureEntries.{kind_name as list_kind_name}
+use Rattle.tpm_event_marks.specs.SignatureMarks.{kind_name as list_kind_name}
 
 -- what is wrong with a log (PC Client Platform Firmware Profile, "Event Logging")
 abbrev pub log_words : LogFaultKind → List ℕ
@@ -41,6 +42,7 @@ boot_words boots.NoSeparator = codes "the log ends without a separator in regist
 boot_words boots.Late = codes "behind the separator, the record is no EV_EFI_VARIABLE_AUTHORITY"
 boot_words boots.NoKey = codes "Secure Boot is on, and PK, KEK or db holds nothing"
 boot_words boots.NoAuthority = codes "Secure Boot is on, and the log ends without an authority"
+boot_words boots.NoSecureBoot = codes "the log ends, and SecureBoot was not measured, as by a BIOS without UEFI"
 
 -- what keeps the content of a variable from being lists of signatures (UEFI Specification, "Signature Database")
 abbrev pub list_words : SignatureFaultKind → List ℕ
@@ -48,6 +50,24 @@ list_words lists.Truncated = codes "the lists end within the type or the sizes o
 list_words lists.ListSize = codes "a list has fewer bytes than its type and sizes, or more than are left"
 list_words lists.HeaderSize = codes "a list's header has more bytes than the list"
 list_words lists.SignatureSize = codes "a list's signatures have no room for their owner, or are no whole number"
+
+-- the names of all kinds, each once
+abbrev pub kind_names : List (List ℕ)
+kind_names =
+    codes "Truncated" ∷ codes "TooLong" ∷ codes "NotCryptoAgile" ∷ codes "BadHeader" ∷ codes "DuplicateAlgorithm"
+    ∷ codes "WrongDigestSize" ∷ codes "UnknownAlgorithm" ∷ codes "RepeatedDigest" ∷ codes "BadRegister"
+    ∷ codes "BadLocality" ∷ codes "LateLocality" ∷ codes "Device"
+    ∷ codes "NotMeasured" ∷ codes "OtherType" ∷ codes "NoVariable" ∷ codes "Twice" ∷ codes "OtherValue"
+    ∷ codes "Debugger" ∷ codes "BadSeparator" ∷ codes "NoSeparator" ∷ codes "Late" ∷ codes "NoKey"
+    ∷ codes "NoAuthority" ∷ codes "ListSize" ∷ codes "HeaderSize" ∷ codes "SignatureSize" ∷ []
+
+-- the first of these names that is the word, in any letter case
+unfoldable pub name_among : List (List ℕ) → (word : List ℕ) → Option (List ℕ)
+name_among names word = find (λ name. str_eq_ignore_ascii_case name word) names
+
+-- the name of a kind as it is spelled, by the same in any letter case, and else the word itself
+abbrev pub spelled : List ℕ → List ℕ
+spelled word = unwrap_or (name_among kind_names word) word
 
 unfoldable pub kind_line : (name words : List ℕ) → List ℕ
 kind_line name words = line ((name ++ codes ":") ∷ words ∷ [])
@@ -61,4 +81,4 @@ ExplainsKind name Done text =
 ExplainsKind name Refused text =
     ((kind : LogFaultKind) → kind_name kind ≡ name → ⊥) × ((kind : SecureBootFaultKind) → fault_name kind ≡ name → ⊥)
     × ((kind : SignatureFaultKind) → list_kind_name kind ≡ name → ⊥)
-    × (text ≡ codes "unknown kind of fault\n")
+    × (text ≡ codes "unknown name of a code or of a fault\n")

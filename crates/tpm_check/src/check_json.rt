@@ -1,13 +1,13 @@
 //! What `check` says, as objects of JSON.
 
-ghost use Rattle.std.specs.Prelude.{◌≡◌, ◌<◌, ◌++◌, IfOk, OnOk, map, string_bytes};
+ghost use Rattle.std.specs.Prelude.{◌≡◌, ◌<◌, ◌++◌, IfOk, OnOk, map, option_map, string_bytes};
 ghost use Rattle.tpm_types.specs.Alg.{all_algs};
 ghost use Rattle.tpm_pcr.specs.Registers.{value_in};
 ghost use Rattle.tpm_output.specs.declared.status.Status.TheVariants.{Refused};
 ghost use Rattle.tpm_check.specs.Told.{told};
 ghost use Rattle.tpm_check.specs.CheckJson.{bank_begin, bank_member, not_hexadecimal_text};
-ghost use Rattle.tpm_check.specs.CheckJson.{ok_text, quote_text};
-ghost use Rattle.tpm_check.specs.CheckJson.{refusal_object, refusal_text, registers_object, registers_told};
+ghost use Rattle.tpm_check.specs.CheckJson.{hint_line, hint_member, ok_text, quote_text};
+ghost use Rattle.tpm_check.specs.CheckJson.{refusal_members, refusal_text, registers_object, registers_told};
 ghost use Rattle.tpm_check.specs.CheckJson.{value_entries, value_entry};
 ghost use Rattle.tpm_output.specs.Text.{commas};
 
@@ -15,8 +15,9 @@ use crate::beside::Beside;
 use crate::register_text::push_registers;
 use std::alloc::{AllocError, Global};
 use tpm_output::answer::Answer;
+use tpm_output::members::push_text_member;
 use tpm_output::status::Status;
-use tpm_output::text::{Pushed, push_comma};
+use tpm_output::text::{Pushed, push_comma, push_refusal};
 use tpm_pcr::Registers;
 use tpm_types::{Alg, REGISTERS, register};
 use tpm_wire::Refusal;
@@ -109,40 +110,78 @@ pub(crate) fn push_registers_told(alloc: Global, text: &mut String, found: &Besi
 }
 
 /// Whether a quote's digest is that of the registers, in a line or as an object.
-pub(crate) fn quote_text(json: bool, same: bool) -> &'static str
+pub(crate) fn quote_text(json: bool, same: Option<bool>) -> &'static str
     ensures { result.now ≡ quote_text json same }
 {
     match (json, same) {
-        (false, true) => "quote matches\n",
-        (false, false) => "quote differs\n",
-        (true, true) => "{\"quote\":\"matches\"}\n",
-        (true, false) => "{\"quote\":\"differs\"}\n",
+        (false, Some(true)) => "quote matches\n",
+        (false, Some(false)) => "quote differs\n",
+        (false, None) => "quote of no hash\n",
+        (true, Some(true)) => "{\"quote\":\"matches\"}\n",
+        (true, Some(false)) => "{\"quote\":\"differs\"}\n",
+        (true, None) => "{\"quote\":\"of no hash\"}\n",
     }
 }
 
-#[tactic(auto, unfolding(crate::specs::CheckJson::refusal_object))]
-fn push_refusal_object(text: &mut String, refusal: &Refusal) -> Pushed
+#[tactic(auto, unfolding(crate::specs::CheckJson::refusal_members))]
+fn push_refusal_members(text: &mut String, refusal: &Refusal) -> Pushed
     ensures { OnOk result (string_bytes text.new
-        ≡ string_bytes text.old ++ refusal_object refusal.now) }
+        ≡ string_bytes text.old ++ refusal_members refusal.now) }
 {
     let Refusal { code, at } = *refusal;
-    writeln!(text, "{{\"refused\":\"{code:03x}\",\"at\":{at}}}")
+    write!(text, "{{\"refused\":\"{code:03x}\",\"at\":{at}")
 }
 
-/// A refusal, in a line or as an object, with the status `Refused`; or that memory was refused.
+fn push_hint_member(text: &mut String, hint: Option<&str>) -> Pushed
+    ensures { OnOk result (string_bytes text.new
+        ≡ string_bytes text.old ++ hint_member (option_map (λ h. h.now) hint.entry)) }
+{
+    match hint {
+        Some(hint) => push_text_member(text, "hint", hint),
+        None => Ok(()),
+    }
+}
+
+fn push_hint_line(text: &mut String, hint: Option<&str>) -> Pushed
+    ensures { OnOk result (string_bytes text.new
+        ≡ string_bytes text.old ++ hint_line (option_map (λ h. h.now) hint.entry)) }
+{
+    match hint {
+        Some(hint) => writeln!(text, "{hint}"),
+        None => Ok(()),
+    }
+}
+
+// Adds a refusal, and what the bytes are in place of what they don't spell, where that is known.
+fn push_refusal_told(text: &mut String, json: bool, refusal: &Refusal, hint: Option<&str>) -> Pushed
+    ensures { OnOk result (string_bytes text.new
+        ≡ string_bytes text.old
+        ++ refusal_text json refusal.now (option_map (λ h. h.now) hint.entry)) }
+{
+    if json {
+        push_refusal_members(text, refusal)?;
+        push_hint_member(text, hint)?;
+        text.push_str("}\n")
+    } else {
+        push_refusal(text, refusal)?;
+        push_hint_line(text, hint)
+    }
+}
+
+/// A refusal, and what the bytes are in place of what they don't spell, where that is known; in lines or as an object,
+/// with the status `Refused`. AllocError where a request for memory is refused.
 pub(crate) fn refusal_answer(
     alloc: Global,
     json: bool,
     refusal: &Refusal,
+    hint: Option<&str>,
 ) -> Result<Answer, AllocError>
     ensures { IfOk result (λ a. (a.status ≡ Refused)
-        × (string_bytes a.text ≡ refusal_text json refusal.now)) }
+        × (string_bytes a.text
+        ≡ refusal_text json refusal.now (option_map (λ h. h.now) hint.entry))) }
 {
-    if !json {
-        return Answer::refusal(alloc, refusal);
-    }
     let mut text = String::new(alloc);
-    push_refusal_object(&mut text, refusal)?;
+    push_refusal_told(&mut text, json, refusal, hint)?;
     Ok(Answer::refused(text))
 }
 

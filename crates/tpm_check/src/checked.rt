@@ -1,20 +1,18 @@
 //! The subcommand `check`.
 
-ghost use Rattle.std.specs.Prelude.{◌≡◌, ◌++◌, ℕ, List, Some, None, IfOk, IsErrOf, Result};
+ghost use Rattle.std.specs.Prelude.{◌≡◌, ◌||◌, ◌++◌, ℕ, List, Option, IfOk, IsErrOf, Result, is_some, option_map};
 ghost use Rattle.std.specs.Io.KnownBytes.{Appends};
 ghost use Rattle.tpm_pcr.specs.Registers.{Registers as RegistersValue};
 ghost use Rattle.tpm_output.specs.declared.status.Status.TheVariants.{Done, Refused};
 ghost use Rattle.tpm_output.specs.declared.fault.ToolFault.TheVariants.{InputTooLong, Read};
 ghost use Rattle.tpm_output.specs.Faults.{FailsByMemoryOrWrite};
-ghost use Rattle.tpm_output.specs.Text.{bytes_in};
 ghost use Rattle.tpm_output.specs.InputLines.{CountsRead};
-ghost use Rattle.tpm_check.specs.Compare.{ReadsList, ReadsTooMuchList};
+ghost use Rattle.tpm_check.specs.Compare.{printed};
 ghost use Rattle.tpm_check.specs.Told.{told};
 ghost use Rattle.tpm_check.specs.CheckJson.{ok_text, registers_told};
-ghost use Rattle.tpm_check.specs.Check.{ChecksQuote, CountsReads, FailsLast};
-ghost use Rattle.tpm_check.specs.Check.{ReadsTooMuchIfList, list_before, list_after};
-ghost use Rattle.tpm_check.specs.CheckAttest.{ChecksGiven, printed};
-ghost use Rattle.tpm_check.specs.Checked.{ChecksAll, ChecksLog, ChecksToEnd, ChecksValues};
+ghost use Rattle.tpm_check.specs.Check.{CountsReads, FailsLast, ReadsIfList, ReadsTooMuchIfList};
+ghost use Rattle.tpm_check.specs.Check.{failures_of, has_stopped};
+ghost use Rattle.tpm_check.specs.Checked.{ChecksAll, ChecksLog, ChecksSigned, ChecksToEnd, ChecksValues};
 ghost use Rattle.tpm_events.specs.LogFaults.{fault_text};
 ghost use Rattle.tpm_log.specs.Changes.{AreAfter};
 ghost use Rattle.tpm_log.specs.Replays.{ReplaysFrom, ReadsFrom};
@@ -24,30 +22,17 @@ ghost use Rattle.tpm_wire.specs.Sources.{IsWhereItFailed};
 use crate::beside::Beside;
 use crate::check_json::{ok_text, push_registers_told};
 use crate::compared::check_list;
-use crate::judged::{Signed, answer_to_given};
+use crate::judged::answer_to_attest;
 use crate::quoted::answer_to_quote;
 use std::alloc::Global;
 use std::io::Write;
 use tpm_events::faults::print_fault;
 use tpm_log::{LogFault, LogFaultKind, replay_from};
+use tpm_options::CheckOptions;
 use tpm_output::answer::write;
 use tpm_output::fault::ToolFault;
 use tpm_output::status::Status;
-use tpm_types::Alg;
 use tpm_wire::Source;
-
-/// What the registers of a log are compared with, besides a list of them.
-#[derive(Drop)]
-pub struct Compared<'a> {
-    /// A quote as it was signed, and what is expected of it.
-    pub signed: Option<Signed<'a>>,
-    /// The information of a quote (TPMS_QUOTE_INFO; Part 2, 10.12.4), in hexadecimal digits.
-    pub quote: Option<&'a str>,
-    /// The hash of the digests in both.
-    pub hash: Alg,
-    /// Whether what is printed is objects of JSON, one in a line, in place of lines.
-    pub json: bool,
-}
 
 /// Prints the fault of a log, and the status where it is told.
 pub(crate) fn tell_fault<W: Write>(
@@ -93,165 +78,110 @@ fn print_registers<W: Write>(
     Ok(Status::Done)
 }
 
-// Prints what a quote's information in hexadecimal says of registers.
-fn print_quote<W: Write>(
-    alloc: Global,
-    found: &Beside<'_>,
-    hash: Alg,
-    quote: &str,
-    out: &mut W,
-) -> Result<Status, ToolFault>
-    ensures ok { IfOk result (λ status. (text : List ℕ)
-        × ChecksQuote (told found.now) hash (bytes_in quote.now) (printed status text)
-        × Appends (W.contents out.old) (W.contents out.new) text) }
-    ensures err { FailsByMemoryOrWrite result }
-{
-    answer_to_quote(alloc, found, hash, quote)?.print(out)
-}
-
-// Prints what a quote as it was signed says of registers.
+// Prints what a quote as it was signed says of registers, where there is one.
 fn print_signed<W: Write>(
     alloc: Global,
     found: &Beside<'_>,
-    hash: Alg,
-    signed: &Signed<'_>,
+    options: &CheckOptions<'_>,
+    attest: Option<&[u8]>,
     out: &mut W,
 ) -> Result<Status, ToolFault>
     ensures ok { IfOk result (λ status. (text : List ℕ)
-        × ChecksGiven (told found.now) hash signed.now (printed status text)
+        × ChecksSigned (told found.now) options.now (option_map (λ a. a.now) attest.entry)
+        (printed status text)
         × Appends (W.contents out.old) (W.contents out.new) text) }
     ensures err { FailsByMemoryOrWrite result }
 {
-    answer_to_given(alloc, found, hash, signed)?.print(out)
+    match attest {
+        Some(bytes) => answer_to_attest(alloc, found, options, bytes)?.print(out),
+        None => Ok(Status::Done),
+    }
 }
 
-// Prints what a quote's information says of registers, or the registers where there is none.
+// Prints what the information of a quote says of registers, where there is one, and else the registers themselves, if
+// they stand beside nothing else.
 fn print_values<W: Write>(
     alloc: Global,
     found: &Beside<'_>,
-    compared: &Compared<'_>,
+    options: &CheckOptions<'_>,
+    others: bool,
     out: &mut W,
 ) -> Result<Status, ToolFault>
     ensures ok { IfOk result (λ status. (text : List ℕ)
-        × ChecksValues (told found.now) compared.now None (printed status text)
+        × ChecksValues (told found.now) options.now others (printed status text)
         × Appends (W.contents out.old) (W.contents out.new) text) }
     ensures err { FailsByMemoryOrWrite result }
 {
-    match compared.quote {
-        Some(quote) => print_quote(alloc, found, compared.hash, quote, out),
+    match options.quote {
+        Some(quote) => answer_to_quote(alloc, found, options.hash, quote)?.print(out),
+        None if others => Ok(Status::Done),
         None => print_registers(alloc, found, out),
     }
 }
 
-// Prints each line of a list beside registers, and then what a quote's information says of them.
+// Whether registers stand beside a quote as it was signed or a list.
+fn is_compared<F>(attest: Option<&[u8]>, list: &Option<F>) -> bool
+    ensures { result ≡ (is_some (option_map (λ a. a.now) attest.entry) || is_some list.now) }
+{
+    attest.is_some() || list.is_some()
+}
+
+// Compares registers with all that is given, or prints them.
 fn print_compared<F: Source, W: Write>(
     alloc: Global,
     found: &Beside<'_>,
-    compared: &Compared<'_>,
-    list: &mut F,
+    options: &CheckOptions<'_>,
+    attest: Option<&[u8]>,
+    list: &mut Option<F>,
     out: &mut W,
 ) -> Result<Status, ToolFault>
-    ensures failures { CountsRead (F.failed list.old) (F.failed list.new) result }
-    ensures stop { IsErrOf result Read → IsWhereItFailed (F.stopped list.new) }
-    ensures ok { IfOk result (λ status. (bytes : List ℕ) × (text : List ℕ)
-        × ReadsList (told found.now) (F.coming list.old) (F.coming list.new) bytes
-        × ChecksValues (told found.now) compared.now (Some bytes) (printed status text)
+    ensures failures { CountsRead
+        (failures_of F.failed list.old) (failures_of F.failed list.new) result }
+    ensures stop { IsErrOf result Read → IsWhereItFailed (has_stopped F.stopped list.new) }
+    ensures ok { IfOk result (λ status. (bytes : Option (List ℕ)) × (text : List ℕ)
+        × ReadsIfList (told found.now)
+        (option_map F.coming list.old) (option_map F.coming list.new) bytes
+        × ChecksAll (told found.now) options.now (record {
+          attest = option_map (λ a. a.now) attest.entry;
+          list = bytes;
+        }) (printed status text)
         × Appends (W.contents out.old) (W.contents out.new) text) }
     ensures too_long { IsErrOf result InputTooLong
-        → ReadsTooMuchList (F.coming list.old) (F.coming list.new) }
+        → ReadsTooMuchIfList (option_map F.coming list.old) (option_map F.coming list.new) }
 {
-    let Some(first) = check_list(alloc, found, list, out)? else {
+    let others = is_compared(attest, list);
+    let first = print_signed(alloc, found, options, attest, out)?;
+    let Some(second) = check_list(alloc, found, list, out)? else {
         return Ok(Status::Refused);
     };
-    let Some(quote) = compared.quote else {
-        return Ok(first);
-    };
-    let second = print_quote(alloc, found, compared.hash, quote, out)?;
-    Ok(first.both(second))
+    let third = print_values(alloc, found, options, others, out)?;
+    Ok(first.both(second.both(third)))
 }
 
-// Compares registers with the quotes that are given.
-fn check_alone<W: Write>(
+// The same, and the status where it is told.
+fn print_to_end<F: Source, W: Write>(
     alloc: Global,
     found: &Beside<'_>,
-    compared: &Compared<'_>,
+    options: &CheckOptions<'_>,
+    attest: Option<&[u8]>,
+    list: &mut Option<F>,
     out: &mut W,
 ) -> Result<Status, ToolFault>
-    ensures ok { IfOk result (λ status. (text : List ℕ)
-        × ChecksAll (told found.now) compared.now None (printed status text)
-        × Appends (W.contents out.old) (W.contents out.new) text) }
-    ensures err { FailsByMemoryOrWrite result }
-{
-    let Some(signed) = &compared.signed else {
-        return print_values(alloc, found, compared, out);
-    };
-    let first = print_signed(alloc, found, compared.hash, signed, out)?;
-    let Some(quote) = compared.quote else {
-        return Ok(first);
-    };
-    let second = print_quote(alloc, found, compared.hash, quote, out)?;
-    Ok(first.both(second))
-}
-
-// Compares registers with the quotes that are given, and with a list.
-fn check_stated<F: Source, W: Write>(
-    alloc: Global,
-    found: &Beside<'_>,
-    compared: &Compared<'_>,
-    list: &mut F,
-    out: &mut W,
-) -> Result<Status, ToolFault>
-    ensures failures { CountsRead (F.failed list.old) (F.failed list.new) result }
-    ensures stop { IsErrOf result Read → IsWhereItFailed (F.stopped list.new) }
-    ensures ok { IfOk result (λ status. (bytes : List ℕ) × (text : List ℕ)
-        × ReadsList (told found.now) (F.coming list.old) (F.coming list.new) bytes
-        × ChecksAll (told found.now) compared.now (Some bytes) (printed status text)
+    ensures failures { CountsRead
+        (failures_of F.failed list.old) (failures_of F.failed list.new) result }
+    ensures stop { IsErrOf result Read → IsWhereItFailed (has_stopped F.stopped list.new) }
+    ensures ok { IfOk result (λ status. (bytes : Option (List ℕ)) × (text : List ℕ)
+        × ReadsIfList (told found.now)
+        (option_map F.coming list.old) (option_map F.coming list.new) bytes
+        × ChecksToEnd (told found.now) options.now (record {
+          attest = option_map (λ a. a.now) attest.entry;
+          list = bytes;
+        }) (printed status text)
         × Appends (W.contents out.old) (W.contents out.new) text) }
     ensures too_long { IsErrOf result InputTooLong
-        → ReadsTooMuchList (F.coming list.old) (F.coming list.new) }
+        → ReadsTooMuchIfList (option_map F.coming list.old) (option_map F.coming list.new) }
 {
-    let Some(signed) = &compared.signed else {
-        return print_compared(alloc, found, compared, list, out);
-    };
-    let first = print_signed(alloc, found, compared.hash, signed, out)?;
-    let second = print_compared(alloc, found, compared, list, out)?;
-    Ok(first.both(second))
-}
-
-// Compares registers with the quotes that are given, and tells the status.
-fn tell_alone<W: Write>(
-    alloc: Global,
-    found: &Beside<'_>,
-    compared: &Compared<'_>,
-    out: &mut W,
-) -> Result<Status, ToolFault>
-    ensures ok { IfOk result (λ status. (text : List ℕ)
-        × ChecksToEnd (told found.now) compared.now None (printed status text)
-        × Appends (W.contents out.old) (W.contents out.new) text) }
-    ensures err { FailsByMemoryOrWrite result }
-{
-    let status = check_alone(alloc, found, compared, out)?;
-    print_ok(found.json, status, out)
-}
-
-// Compares registers with the quotes that are given, and with a list, and tells the status.
-fn tell_stated<F: Source, W: Write>(
-    alloc: Global,
-    found: &Beside<'_>,
-    compared: &Compared<'_>,
-    list: &mut F,
-    out: &mut W,
-) -> Result<Status, ToolFault>
-    ensures failures { CountsRead (F.failed list.old) (F.failed list.new) result }
-    ensures stop { IsErrOf result Read → IsWhereItFailed (F.stopped list.new) }
-    ensures ok { IfOk result (λ status. (bytes : List ℕ) × (text : List ℕ)
-        × ReadsList (told found.now) (F.coming list.old) (F.coming list.new) bytes
-        × ChecksToEnd (told found.now) compared.now (Some bytes) (printed status text)
-        × Appends (W.contents out.old) (W.contents out.new) text) }
-    ensures too_long { IsErrOf result InputTooLong
-        → ReadsTooMuchList (F.coming list.old) (F.coming list.new) }
-{
-    let status = check_stated(alloc, found, compared, list, out)?;
+    let status = print_compared(alloc, found, options, attest, list, out)?;
     print_ok(found.json, status, out)
 }
 
@@ -261,29 +191,36 @@ fn tell_stated<F: Source, W: Write>(
 /// A fault of the log is `log KIND at N`, the kind and how many bytes precede it, and ends the output. Where nothing
 /// is given the registers are printed, `sha1 I X` for each of the 24, then `sha256 I X` and `sha384 I X`.
 ///
-/// The quote as it was signed comes first. Where the nonce is not hexadecimal `not hexadecimal` is printed, and where
-/// the bytes spell no quote `refused XXX at N`. Else a line each says what the quote does (TPMS_ATTEST; Part 2,
-/// 10.12): `signer`, `nonce`, `clock`, `resets`, `restarts`, `safe`, `firmware`, and `selection` with each bank and
-/// its registers. Then come the verdicts: `nonce matches`, `nonce differs`, or without a nonce `nonce not compared`;
+/// The quote as it was signed comes first. Where the bytes spell none it is `refused XXX at N`, and behind that
+/// `a size stands before it` for a TPM2B_ATTEST, or `it is a signature` for a TPMT_SIGNATURE. Else a line each says
+/// what the quote does (TPMS_ATTEST; Part 2, 10.12): `signer`, `nonce`, `clock`, `resets`, `restarts`, `safe`,
+/// `firmware`, and `selection` with each bank and its registers. Then come the verdicts: `signer matches` or `signer
+/// differs`, where a signer is given; `nonce matches`, `nonce differs`, or without a nonce `nonce not compared`;
 /// `selection covers`, or `selection lacks BANK I` for the first register that is required and not selected, or where
 /// none is required `selection not compared`, and `selection empty` for a quote that selects none; and `quote matches`
-/// or `quote differs`, by its digest under the hash. The signature is not looked at.
+/// or `quote differs`, by its digest under the hash. Where no hash is given it is the one whose digests are as long;
+/// where none are it is `quote of no hash`. The signature is not looked at.
 ///
 /// For each line of a list that states a register, in the form of above or as `tpm2_pcrread` prints it below the
 /// bank's heading, `match BANK I` or `differs BANK I` is printed, and nothing for a heading and for a register below
-/// that of SHA-512, SM3 or SHA-3; any other line is `line N: not a register`, which ends the output.
+/// that of SHA-512, SM3 or SHA-3; any other line is `line N: not a register`, which ends the output. Behind a list of
+/// which no line states a register it is `no register`.
 ///
-/// The quote's information comes last: `quote matches` or `quote differs`, by its digest under the hash; where it is
-/// not hexadecimal `not hexadecimal`, and where the bytes spell none `refused XXX at N`. The status is `Refused` for a
-/// fault, for what differs, for what is lacking and for what is refused.
+/// The quote's information comes last: `quote matches`, `quote differs` or `quote of no hash`; where it is not
+/// hexadecimal `not hexadecimal`, and where the bytes spell none `refused XXX at N`.
+///
+/// The status is `Refused` for a fault, for what differs, for what is lacking and for what is refused; where nothing
+/// was compared with the nonce or the selection of a quote as it was signed, unless any was asked for; and for a list
+/// without a register.
 ///
 /// The objects of JSON say what the lines say. The registers are `registers`, an object by the banks of lists of 24
 /// values. The quote as it was signed is `attest`, an object of `signer`, `nonce`, `clock`, `resets`, `restarts`,
-/// `safe`, `firmware` and `selection`, a list of `bank` and `registers`; beside it stand `nonce`, `selection` and
-/// `quote`, the verdicts by their words, and behind a `selection` that lacks a register `lacks`, its `bank` and its
-/// `register`. A register of a list has `bank`, `register` and `match`, and a line that states none `fault` and `line`.
-/// The quote's information has `quote`. What is refused has `refused` and `at`, and a fault of the log `fault` and
-/// `at`. The last object is `ok`, whether the status is `Done`. Bytes are in hexadecimal.
+/// `safe`, `firmware` and `selection`, a list of `bank` and `registers`; beside it stand `signer`, where one is given,
+/// `nonce`, `selection` and `quote`, the verdicts by their words, and behind a `selection` that lacks a register
+/// `lacks`, its `bank` and its `register`. A register of a list has `bank`, `register` and `match`, a line that states
+/// none `fault` and `line`, and a list without one `fault` alone. The quote's information has `quote`. What is refused
+/// has `refused`, `at` and `hint`, what the bytes are, where that is told; and a fault of the log `fault` and `at`. The
+/// last object is `ok`, whether the status is `Done`. Bytes are in hexadecimal.
 ///
 /// Where a request for memory is refused the answer is `Memory`, where a read of the log or of the list fails `Read`,
 /// where the writer fails `Write`, and where more than 16,777,216 bytes of a list come before its output has ended
@@ -291,24 +228,24 @@ fn tell_stated<F: Source, W: Write>(
 pub fn check_log<L: Source, F: Source, W: Write>(
     alloc: Global,
     log: &mut L,
-    compared: &Compared<'_>,
-    list: Option<&mut F>,
+    options: &CheckOptions<'_>,
+    attest: Option<&[u8]>,
+    list: &mut Option<F>,
     out: &mut W,
 ) -> Result<Status, ToolFault>
     ensures failures { CountsReads (record {
       log = L.failed log.old;
       log-behind = L.failed log.new;
-      failed = F.failed;
-      list = list_before list.entry;
-      list-behind = list_after list.exit;
+      list = failures_of F.failed list.old;
+      list-behind = failures_of F.failed list.new;
     }) result }
-    ensures stop { IsErrOf result Read → FailsLast F.stopped (L.stopped log.new) (record {
+    ensures stop { IsErrOf result Read → FailsLast (record {
       log = L.failed log.old;
       log-behind = L.failed log.new;
-      failed = F.failed;
-      list = list_before list.entry;
-      list-behind = list_after list.exit;
-    }) }
+      list = failures_of F.failed list.old;
+      list-behind = failures_of F.failed list.new;
+    }) (IsWhereItFailed (L.stopped log.new) × (list.new ≡ list.old))
+        (IsWhereItFailed (has_stopped F.stopped list.new)) }
     ensures ok { IfOk result (λ status. (found : Result RegistersValue LogFaultValue)
         × (text : List ℕ)
         × ReplaysFrom AreAfter (record {
@@ -318,26 +255,23 @@ pub fn check_log<L: Source, F: Source, W: Write>(
         }) found
         × ReadsFrom AreAfter (L.coming log.old) (L.coming log.new) found
         × ChecksLog (record {
-          compared = compared.now;
-          coming = F.coming;
-          list = list_before list.entry;
-          list-behind = list_after list.exit;
+          options = options.now;
+          attest = option_map (λ a. a.now) attest.entry;
+          list = option_map F.coming list.old;
+          list-behind = option_map F.coming list.new;
         }) found status text
         × Appends (W.contents out.old) (W.contents out.new) text) }
     ensures too_long { IsErrOf result InputTooLong
-        → ReadsTooMuchIfList F.coming (list_before list.entry) (list_after list.exit) }
+        → ReadsTooMuchIfList (option_map F.coming list.old) (option_map F.coming list.new) }
 {
     let found = match replay_from(log) {
         Ok(found) => found,
         Err(fault) if fault.kind == LogFaultKind::Device => return Err(ToolFault::Read),
-        Err(fault) => return tell_fault(alloc, compared.json, &fault, out),
+        Err(fault) => return tell_fault(alloc, options.json, &fault, out),
     };
     let found = Beside {
         registers: &found,
-        json: compared.json,
+        json: options.json,
     };
-    match list {
-        Some(list) => tell_stated(alloc, &found, compared, list, out),
-        None => tell_alone(alloc, &found, compared, out),
-    }
+    print_to_end(alloc, &found, options, attest, list, out)
 }

@@ -1,11 +1,16 @@
 //! A list of registers in the subcommand `check`.
 
-ghost use Rattle.std.specs.Prelude.{◌≡◌, ◌++◌, ℕ, List, IfOk, OnOk, IsErrOf, string_bytes};
+ghost use Rattle.std.specs.Prelude.{◌≡◌, ◌++◌, ℕ, List, Option, Some, IfOk, IfSome, OnOk, IsErrOf};
+ghost use Rattle.std.specs.Prelude.{is_some, option_map, string_bytes};
 ghost use Rattle.std.specs.Io.KnownBytes.{Appends};
 ghost use Rattle.tpm_wire.specs.Sources.{IsWhereItFailed};
 ghost use Rattle.tpm_output.specs.declared.fault.ToolFault.TheVariants.{InputTooLong, Read};
+ghost use Rattle.tpm_output.specs.Faults.{FailsByMemoryOrWrite};
 ghost use Rattle.tpm_output.specs.InputLines.{AddedTo, CountsRead};
 ghost use Rattle.tpm_output.specs.LineSinks.{some_if};
+ghost use Rattle.tpm_output.specs.Status.{both};
+ghost use Rattle.tpm_check.specs.Check.{ReadsIfList, ReadsTooMuchIfList, failures_of, has_stopped};
+ghost use Rattle.tpm_check.specs.Compare.{compared, no_register_text, states_any, status_if};
 ghost use Rattle.tpm_check.specs.Compare.{comparison, compared_text, is_value, line_under, ReadsList, ReadsTooMuchList};
 ghost use Rattle.tpm_check.specs.Comparing.{line_behind, line_text, stated_as, stated_behind, stated_text};
 ghost use Rattle.tpm_check.specs.Comparing.{status_behind};
@@ -26,13 +31,14 @@ use tpm_wire::Source;
 /// How many bytes a list has at most.
 const MOST_BYTES: usize = 16_777_216;
 
-// A list of registers that is being compared: with which registers, the heading above the next line, and whether all
-// lines before it match.
+// A list of registers that is being compared: with which registers, the heading above the next line, and of the lines
+// before it whether all match and whether any states a register.
 #[derive(Drop)]
 struct Comparing<'a> {
     found: &'a Beside<'a>,
     heading: Heading,
     status: Status,
+    any: bool,
 }
 
 // Adds the line that says whether a register has the value that was stated, and answers whether it has.
@@ -71,6 +77,7 @@ impl Comparing<'_> {
     {
         let same = compare(text, self.found, stated)?;
         self.status = status_behind(self.status, same);
+        self.any = true;
         Ok(())
     }
 
@@ -140,19 +147,46 @@ impl LineSink for Comparing<'_> {
     }
 }
 
-/// Compares a list of registers with those that were found, and prints of each line that states one whether they
-/// match. None is answered where a line is wrong, which ends the output.
-pub(crate) fn check_list<F: Source, W: Write>(
+fn no_register_text(json: bool, any: bool) -> &'static str
+    ensures { result.now ≡ no_register_text json any }
+{
+    match (json, any) {
+        (_, true) => "",
+        (false, false) => "no register\n",
+        (true, false) => "{\"fault\":\"no register\"}\n",
+    }
+}
+
+impl Comparing<'_> {
+    // The status of a whole list. Where no line of it states a register, that is printed.
+    fn end<W: Write>(&self, json: bool, out: &mut W) -> Result<Status, ToolFault>
+        ensures ok { IfOk result (λ status. (status
+            ≡ both self.now.status (status_if self.now.any))
+            × Appends (W.contents out.old) (W.contents out.new)
+            (no_register_text json self.now.any)) }
+        ensures err { FailsByMemoryOrWrite result }
+    {
+        match out.write_all(no_register_text(json, self.any).as_bytes()) {
+            Ok(()) => Ok(status_behind(self.status, self.any)),
+            Err(_) => Err(ToolFault::Write),
+        }
+    }
+}
+
+// Compares the lines of a list with registers, and prints of each that states one whether they match. None is answered
+// where a line is wrong, which ends the output.
+fn compare_lines<'a, F: Source, W: Write>(
     alloc: Global,
-    found: &Beside<'_>,
+    found: &'a Beside<'a>,
     list: &mut F,
     out: &mut W,
-) -> Result<Option<Status>, ToolFault>
+) -> Result<Option<Comparing<'a>>, ToolFault>
     ensures failures { CountsRead (F.failed list.old) (F.failed list.new) result }
     ensures stop { IsErrOf result Read → IsWhereItFailed (F.stopped list.new) }
-    ensures ok { IfOk result (λ status. (bytes : List ℕ)
+    ensures ok { IfOk result (λ left. (bytes : List ℕ)
         × ReadsList (told found.now) (F.coming list.old) (F.coming list.new) bytes
-        × (status ≡ (comparison (told found.now) bytes).status)
+        × (option_map (λ k. k.status) left ≡ (comparison (told found.now) bytes).status)
+        × IfSome left (λ k. k.any ≡ states_any bytes)
         × Appends (W.contents out.old) (W.contents out.new)
         (comparison (told found.now) bytes).text) }
     ensures too_long { IsErrOf result InputTooLong
@@ -162,9 +196,59 @@ pub(crate) fn check_list<F: Source, W: Write>(
         found,
         heading: Heading::NoBank,
         status: Status::Done,
+        any: false,
     };
-    match take_lines(alloc, list, out, comparing, MOST_BYTES)? {
-        Some(comparing) => Ok(Some(comparing.status)),
+    take_lines(alloc, list, out, comparing, MOST_BYTES)
+}
+
+// Compares a list with registers, and prints of each line that states one whether they match, and behind them whether
+// none does.
+fn compare_list<F: Source, W: Write>(
+    alloc: Global,
+    found: &Beside<'_>,
+    list: &mut F,
+    out: &mut W,
+) -> Result<Option<Status>, ToolFault>
+    ensures failures { CountsRead (F.failed list.old) (F.failed list.new) result }
+    ensures stop { IsErrOf result Read → IsWhereItFailed (F.stopped list.new) }
+    ensures ok { IfOk result (λ status. (bytes : List ℕ)
+        × ReadsList (told found.now) (F.coming list.old) (F.coming list.new) bytes
+        × (status ≡ (compared (told found.now) (Some bytes)).status)
+        × Appends (W.contents out.old) (W.contents out.new)
+        (compared (told found.now) (Some bytes)).text) }
+    ensures too_long { IsErrOf result InputTooLong
+        → ReadsTooMuchList (F.coming list.old) (F.coming list.new) }
+{
+    match compare_lines(alloc, found, list, out)? {
+        Some(comparing) => Ok(Some(comparing.end(found.json, out)?)),
         None => Ok(None),
+    }
+}
+
+/// Compares a list of registers, where there is one, with those that were found, and prints of each line that states
+/// one whether they match, and behind them whether none does. None is answered where a line is wrong, which ends the
+/// output.
+pub(crate) fn check_list<F: Source, W: Write>(
+    alloc: Global,
+    found: &Beside<'_>,
+    list: &mut Option<F>,
+    out: &mut W,
+) -> Result<Option<Status>, ToolFault>
+    ensures failures { CountsRead
+        (failures_of F.failed list.old) (failures_of F.failed list.new) result }
+    ensures stop { IsErrOf result Read → IsWhereItFailed (has_stopped F.stopped list.new) }
+    ensures ok { IfOk result (λ status. (bytes : Option (List ℕ))
+        × ReadsIfList (told found.now)
+        (option_map F.coming list.old) (option_map F.coming list.new) bytes
+        × (is_some bytes ≡ is_some list.old)
+        × (status ≡ (compared (told found.now) bytes).status)
+        × Appends (W.contents out.old) (W.contents out.new)
+        (compared (told found.now) bytes).text) }
+    ensures too_long { IsErrOf result InputTooLong
+        → ReadsTooMuchIfList (option_map F.coming list.old) (option_map F.coming list.new) }
+{
+    match list {
+        Some(list) => compare_list(alloc, found, list, out),
+        None => Ok(Some(Status::Done)),
     }
 }

@@ -2,53 +2,29 @@
 
 ghost use Rattle.std.specs.Prelude.{◌≡◌, ◌++◌, false, IfOk, OnOk, option_map, string_bytes};
 ghost use Rattle.std.specs.Str.{bytes_eq};
-ghost use Rattle.tpm_pcr.specs.Registers.{composite};
 ghost use Rattle.tpm_quote.specs.Attests.{registers_of};
-ghost use Rattle.tpm_check.specs.CheckAttest.{Adds, attest_told, close_text, lacks_line, lacks_text};
-ghost use Rattle.tpm_check.specs.CheckAttest.{on_nonce, on_missing, on_registers, printed, said, whether};
-ghost use Rattle.tpm_check.specs.CheckAttest.{on_selection, on_quote, on_attest, Says, ChecksAttest, ChecksGiven};
+ghost use Rattle.tpm_check.specs.CheckAttest.{Adds, ChecksAttest, Says, attest_told, close_text, given, hint};
+ghost use Rattle.tpm_check.specs.CheckAttest.{is_signature, is_sized, lacks_line, lacks_text};
+ghost use Rattle.tpm_check.specs.CheckAttest.{on_attest, on_missing, on_nonce, on_quote, on_registers};
+ghost use Rattle.tpm_check.specs.CheckAttest.{on_selection, on_signer, said, whether};
+ghost use Rattle.tpm_check.specs.CheckJson.{quote_word};
+ghost use Rattle.tpm_check.specs.Compare.{printed, status_if};
 ghost use Rattle.tpm_check.specs.Told.{told};
 
 use crate::beside::Beside;
-use crate::check_json::{not_hexadecimal_answer, refusal_answer};
+use crate::check_json::refusal_answer;
 use crate::lacks::push_lacks_member;
+use crate::quoted::{is_quote, quote_status};
 use crate::signed_told::ToldAttest;
 use std::alloc::{AllocError, Global};
-use std::marker::Model;
+use tpm_options::CheckOptions;
 use tpm_output::answer::Answer;
-use tpm_output::hexadecimal::decoded;
 use tpm_output::members::push_text_member;
 use tpm_output::status::Status;
 use tpm_output::tell::{push_json, push_lines};
 use tpm_output::text::Pushed;
-use tpm_quote::{
-    NotSelected, check_quote, decode_attest, first_not_selected, nonce_matches, selects_none,
-};
+use tpm_quote::{NotSelected, decode_attest, first_not_selected, nonce_matches, selects_none};
 use tpm_types::{Alg, Attest, QuoteInfo, Selections};
-
-/// A quote as it was signed, and what is expected of it.
-#[derive(Drop)]
-pub struct Signed<'a> {
-    /// The bytes that the signature is over: a TPMS_ATTEST (Part 2, 10.12.8).
-    pub attest: &'a [u8],
-    /// The nonce that was sent, in hexadecimal digits. Without one extraData is not compared.
-    pub nonce: Option<&'a str>,
-    /// The registers that have to be selected at least. Without them a quote has to select a register, whichever it is.
-    pub required: Option<Selections>,
-}
-
-impl<'a> Model for Signed<'a> {
-    ghost use Rattle.std.specs.Prelude.{option_map};
-    ghost use Rattle.tpm_check.specs.CheckAttest.{Quoted};
-
-    ghost Value = { Quoted };
-
-    ghost view = { λ s. record {
-      bytes = s.attest.now;
-      sent = option_map (λ n. n.now) s.nonce;
-      required = s.required;
-    } };
-}
 
 // Adds the line of what this word names.
 fn push_said_line(text: &mut String, word: &str, says: &str) -> Pushed
@@ -90,22 +66,45 @@ fn is_nonce(attest: &Attest<'_>, sent: &[u8]) -> bool
     nonce_matches(attest, sent)
 }
 
+// The status of what is not compared: `Done` where it was asked for that any will do.
+fn status_if(any: bool) -> Status
+    ensures { result ≡ status_if any }
+{
+    if any { Status::Done } else { Status::Refused }
+}
+
 fn push_nonce(
     text: &mut String,
     json: bool,
+    options: &CheckOptions<'_>,
     attest: &Attest<'_>,
-    sent: Option<&[u8]>,
 ) -> Result<Status, AllocError>
     ensures { IfOk result (λ status. Adds
-        (on_nonce json (option_map (λ s. s.now) sent.entry) attest.now.extra_data) status
+        (on_nonce json options.now.any_nonce (given options.now.nonce) attest.now.extra_data) status
         (string_bytes text.old) (string_bytes text.new)) }
 {
-    match sent {
-        Some(sent) => push_whether(text, json, "nonce", is_nonce(attest, sent)),
+    match &options.nonce {
+        Some(sent) => push_whether(text, json, "nonce", is_nonce(attest, sent.as_slice())),
         None => {
             push_said(text, json, "nonce", "not compared")?;
-            Ok(Status::Done)
+            Ok(status_if(options.any_nonce))
         }
+    }
+}
+
+fn push_signer(
+    text: &mut String,
+    json: bool,
+    options: &CheckOptions<'_>,
+    signer: &[u8],
+) -> Result<Status, AllocError>
+    ensures { IfOk result (λ status. Adds
+        (on_signer json (given options.now.signer) signer.now) status
+        (string_bytes text.old) (string_bytes text.new)) }
+{
+    match &options.signer {
+        Some(wanted) => push_whether(text, json, "signer", signer == wanted.as_slice()),
+        None => Ok(Status::Done),
     }
 }
 
@@ -151,8 +150,13 @@ fn push_missing(
 }
 
 // Adds whether a register is selected where none is required, and answers the status of that.
-fn push_any(text: &mut String, json: bool, quoted: &Selections) -> Result<Status, AllocError>
-    ensures { IfOk result (λ status. Adds (on_registers json (registers_of quoted.now)) status
+fn push_any(
+    text: &mut String,
+    json: bool,
+    any: bool,
+    quoted: &Selections,
+) -> Result<Status, AllocError>
+    ensures { IfOk result (λ status. Adds (on_registers json any (registers_of quoted.now)) status
         (string_bytes text.old) (string_bytes text.new)) }
 {
     if selects_none(quoted) {
@@ -160,57 +164,61 @@ fn push_any(text: &mut String, json: bool, quoted: &Selections) -> Result<Status
         Ok(Status::Refused)
     } else {
         push_said(text, json, "selection", "not compared")?;
-        Ok(Status::Done)
+        Ok(status_if(any))
     }
 }
 
 fn push_selection(
     text: &mut String,
     json: bool,
+    options: &CheckOptions<'_>,
     quoted: &Selections,
-    required: Option<&Selections>,
 ) -> Result<Status, AllocError>
     ensures { IfOk result (λ status. Adds
-        (on_selection json (option_map (λ s. s.now) required.entry) quoted.now) status
+        (on_selection json options.now.any_selection options.now.required quoted.now) status
         (string_bytes text.old) (string_bytes text.new)) }
 {
-    match required {
+    match &options.required {
         Some(required) => push_missing(text, json, first_not_selected(quoted, required)),
-        None => push_any(text, json, quoted),
+        None => push_any(text, json, options.any_selection, quoted),
     }
 }
 
-fn is_quote(found: &Beside<'_>, quote: &QuoteInfo, hash: Alg) -> bool
-    ensures { result
-        ≡ bytes_eq (composite hash (told found.now).value
-        quote.now.selections) quote.now.digest }
+fn quote_word(same: Option<bool>) -> &'static str
+    ensures { result.now ≡ quote_word same }
 {
-    check_quote(found.registers, quote, hash)
+    match same {
+        Some(true) => "matches",
+        Some(false) => "differs",
+        None => "of no hash",
+    }
 }
 
 fn push_quote(
     text: &mut String,
     found: &Beside<'_>,
     quote: &QuoteInfo,
-    hash: Alg,
+    hash: Option<Alg>,
 ) -> Result<Status, AllocError>
     ensures { IfOk result (λ status. Adds
         (on_quote (told found.now) hash quote.now) status (string_bytes text.old)
         (string_bytes text.new)) }
 {
-    push_whether(text, found.json, "quote", is_quote(found, quote, hash))
+    let same = is_quote(found, quote, hash);
+    push_said(text, found.json, "quote", quote_word(same))?;
+    Ok(quote_status(same))
 }
 
 // Adds what a quote says, in lines or as a member.
-fn push_attest_as(alloc: Global, text: &mut String, json: bool, attest: &Attest<'_>) -> Pushed
+fn push_attest_as(text: &mut String, json: bool, attest: &Attest<'_>) -> Pushed
     ensures { OnOk result (string_bytes text.new
         ≡ string_bytes text.old ++ attest_told json attest.now) }
 {
     if json {
         text.push_str("{")?;
-        push_json(alloc, text, false, &ToldAttest(attest))
+        push_json(text, false, &ToldAttest(attest))
     } else {
-        push_lines(alloc, text, &ToldAttest(attest))
+        push_lines(text, &ToldAttest(attest))
     }
 }
 
@@ -220,75 +228,75 @@ fn close_text(json: bool) -> &'static str
     if json { "}\n" } else { "" }
 }
 
-// What is printed of a quote beside registers, under this hash.
+// What is printed of a quote beside registers.
 fn answer_to_signed(
     alloc: Global,
     found: &Beside<'_>,
-    hash: Alg,
-    sent: Option<&[u8]>,
-    required: Option<&Selections>,
+    options: &CheckOptions<'_>,
     attest: &Attest<'_>,
 ) -> Result<Answer, AllocError>
-    ensures { IfOk result (λ a. Says (on_attest (told found.now) hash
-        (option_map (λ s. s.now) sent.entry) (option_map (λ r. r.now) required.entry)
-        attest.now) a.status (string_bytes a.text)) }
+    ensures { IfOk result (λ a. Says (on_attest (told found.now) options.now attest.now)
+        a.status (string_bytes a.text)) }
 {
+    let json = found.json;
     let mut text = String::new(alloc);
-    push_attest_as(alloc, &mut text, found.json, attest)?;
-    let nonce = push_nonce(&mut text, found.json, attest, sent)?;
-    let selection = push_selection(&mut text, found.json, &attest.quote.selections, required)?;
-    let quote = push_quote(&mut text, found, &attest.quote, hash)?;
-    text.push_str(close_text(found.json))?;
+    push_attest_as(&mut text, json, attest)?;
+    let signer = push_signer(&mut text, json, options, attest.signer.as_slice())?;
+    let nonce = push_nonce(&mut text, json, options, attest)?;
+    let selection = push_selection(&mut text, json, options, &attest.quote.selections)?;
+    let quote = push_quote(&mut text, found, &attest.quote, options.hash)?;
+    text.push_str(close_text(json))?;
     Ok(Answer {
-        status: nonce.both(selection.both(quote)),
+        status: signer.both(nonce.both(selection.both(quote))),
         text,
     })
 }
 
-// The same of the quote that these bytes spell, or their fault.
-fn answer_to_attest(
-    alloc: Global,
-    found: &Beside<'_>,
-    hash: Alg,
-    sent: Option<&[u8]>,
-    required: Option<&Selections>,
-    bytes: &[u8],
-) -> Result<Answer, AllocError>
-    ensures { IfOk result (λ a. ChecksAttest (told found.now) hash (record {
-      bytes = bytes.now;
-      sent = option_map (λ s. s.now) sent.entry;
-      required = option_map (λ r. r.now) required.entry;
-    }) (printed a.status (string_bytes a.text))) }
+// TPM_GENERATED_VALUE (Part 2, 6.2), with which a quote begins.
+const GENERATED: [u8; 4] = [0xFF, 0x54, 0x43, 0x47];
+
+// Whether a size stands before a quote, as in a TPM2B_ATTEST (Part 2, 10.12.9).
+fn is_sized(bytes: &[u8]) -> bool
+    ensures { result ≡ is_sized bytes.now }
 {
-    match decode_attest(bytes) {
-        Ok(attest) => answer_to_signed(alloc, found, hash, sent, required, &attest),
-        Err(refusal) => refusal_answer(alloc, found.json, &refusal),
+    bytes.len() >= 6 && &bytes[2..6] == GENERATED.as_slice()
+}
+
+// Whether these are RSASSA, RSAPSS or ECDSA, with which a signature begins (TPMT_SIGNATURE; Part 2, 11.3.4).
+fn is_signature(bytes: &[u8]) -> bool
+    ensures { result ≡ is_signature bytes.now }
+{
+    bytes.len() >= 2
+        && (&bytes[..2] == [0, 0x14].as_slice()
+            || &bytes[..2] == [0, 0x16].as_slice()
+            || &bytes[..2] == [0, 0x18].as_slice())
+}
+
+// What bytes are in place of a quote.
+fn hint(bytes: &[u8]) -> Option<&'static str>
+    ensures { option_map (λ h. h.now) result ≡ hint bytes.now }
+{
+    if is_sized(bytes) {
+        Some("a size stands before it")
+    } else if is_signature(bytes) {
+        Some("it is a signature")
+    } else {
+        None
     }
 }
 
-/// What is printed of a quote as it was signed, beside registers and under this hash.
-pub(crate) fn answer_to_given(
+/// What is printed of the quote that these bytes spell as it was signed, or of their fault, beside registers.
+pub(crate) fn answer_to_attest(
     alloc: Global,
     found: &Beside<'_>,
-    hash: Alg,
-    signed: &Signed<'_>,
+    options: &CheckOptions<'_>,
+    bytes: &[u8],
 ) -> Result<Answer, AllocError>
-    ensures { IfOk result (λ a. ChecksGiven (told found.now) hash signed.now
+    ensures { IfOk result (λ a. ChecksAttest (told found.now) options.now bytes.now
         (printed a.status (string_bytes a.text))) }
 {
-    let required = signed.required.as_ref();
-    let Some(nonce) = signed.nonce else {
-        return answer_to_attest(alloc, found, hash, None, required, signed.attest);
-    };
-    let Some(sent) = decoded(alloc, nonce)? else {
-        return not_hexadecimal_answer(alloc, found.json);
-    };
-    answer_to_attest(
-        alloc,
-        found,
-        hash,
-        Some(sent.as_slice()),
-        required,
-        signed.attest,
-    )
+    match decode_attest(bytes) {
+        Ok(attest) => answer_to_signed(alloc, found, options, &attest),
+        Err(refusal) => refusal_answer(alloc, found.json, &refusal, hint(bytes)),
+    }
 }

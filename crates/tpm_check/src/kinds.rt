@@ -1,6 +1,6 @@
 //! The subcommand `explain` of the kind of a log's fault.
 
-ghost use Rattle.std.specs.Prelude.{◌≡◌, ◌++◌, ℕ, List, IfOk, MatchOption, OnOk, string_bytes};
+ghost use Rattle.std.specs.Prelude.{◌≡◌, ◌++◌, ℕ, List, IfOk, MatchOption, OnOk, map, option_map, string_bytes};
 ghost use Rattle.std.specs.Io.KnownBytes.{Appends};
 ghost use Rattle.tpm_log.specs.declared.fault.LogFaultKind.{LogFaultKind as LogFaultKindValue};
 ghost use Rattle.tpm_secure_boot.specs.declared.verdict.SecureBootFaultKind.{SecureBootFaultKind as BootFaultKindValue};
@@ -9,8 +9,9 @@ ghost use Rattle.tpm_output.specs.declared.status.Status.TheVariants.{Done};
 ghost use Rattle.tpm_output.specs.Faults.{FailsByMemoryOrWrite};
 ghost use Rattle.tpm_events.specs.LogFaults.{kind_name};
 ghost use Rattle.tpm_check.specs.SecureBootLines.{fault_name};
-ghost use Rattle.tpm_events.specs.SignatureEntries.{kind_name as list_kind_name};
-ghost use Rattle.tpm_check.specs.Kinds.{boot_words, kind_line, list_words, log_words, ExplainsKind};
+ghost use Rattle.tpm_event_marks.specs.SignatureMarks.{kind_name as list_kind_name};
+ghost use Rattle.tpm_check.specs.Kinds.{boot_words, kind_line, list_words, log_words, name_among, spelled};
+ghost use Rattle.tpm_check.specs.Kinds.{ExplainsKind};
 
 use std::alloc::{AllocError, Global};
 use std::io::Write;
@@ -21,6 +22,57 @@ use tpm_output::fault::ToolFault;
 use tpm_output::status::Status;
 use tpm_output::text::Pushed;
 use tpm_secure_boot::SecureBootFaultKind;
+
+/// The names of all kinds, each once.
+const KIND_NAMES: [&str; 26] = [
+    "Truncated",
+    "TooLong",
+    "NotCryptoAgile",
+    "BadHeader",
+    "DuplicateAlgorithm",
+    "WrongDigestSize",
+    "UnknownAlgorithm",
+    "RepeatedDigest",
+    "BadRegister",
+    "BadLocality",
+    "LateLocality",
+    "Device",
+    "NotMeasured",
+    "OtherType",
+    "NoVariable",
+    "Twice",
+    "OtherValue",
+    "Debugger",
+    "BadSeparator",
+    "NoSeparator",
+    "Late",
+    "NoKey",
+    "NoAuthority",
+    "ListSize",
+    "HeaderSize",
+    "SignatureSize",
+];
+
+// The first of these names that is the word, in any letter case.
+fn name_among(names: &'static [&'static str], word: &str) -> Option<&'static str>
+    ensures { option_map
+        (λ n. n.now) result ≡ name_among (map (λ n. n.now) names.now) word.now }
+{
+    names
+        .iter()
+        .find(|name| name.eq_ignore_ascii_case(word))
+        .copied()
+}
+
+// The name of a kind as it is spelled, by the same in any letter case, and else the word itself.
+fn spelled(word: &str) -> &str
+    ensures { result.now ≡ spelled word.now }
+{
+    match name_among(&KIND_NAMES, word) {
+        Some(name) => name,
+        None => word,
+    }
+}
 
 // The kind of a log's fault that has this name.
 fn log_kind(name: &str) -> Option<LogFaultKind>
@@ -61,6 +113,7 @@ fn boot_kind(name: &str) -> Option<SecureBootFaultKind>
         "Late" => Some(SecureBootFaultKind::Late),
         "NoKey" => Some(SecureBootFaultKind::NoKey),
         "NoAuthority" => Some(SecureBootFaultKind::NoAuthority),
+        "NoSecureBoot" => Some(SecureBootFaultKind::NoSecureBoot),
         _ => None,
     }
 }
@@ -129,6 +182,8 @@ fn boot_words(kind: SecureBootFaultKind) -> &'static str
         SecureBootFaultKind::NoKey => "Secure Boot is on, and PK, KEK or db holds nothing",
         SecureBootFaultKind::NoAuthority =>
             "Secure Boot is on, and the log ends without an authority",
+        SecureBootFaultKind::NoSecureBoot =>
+            "the log ends, and SecureBoot was not measured, as by a BIOS without UEFI",
     }
 }
 
@@ -173,7 +228,11 @@ fn answer(alloc: Global, name: &str) -> Result<Answer, AllocError>
     }
     match list_kind(name) {
         Some(kind) => explained(alloc, name, list_words(kind)),
-        None => Answer::of(alloc, Status::Refused, "unknown kind of fault\n"),
+        None => Answer::of(
+            alloc,
+            Status::Refused,
+            "unknown name of a code or of a fault\n",
+        ),
     }
 }
 
@@ -181,12 +240,13 @@ fn answer(alloc: Global, name: &str) -> Result<Answer, AllocError>
 /// of Secure Boot or of lists of signatures, as `check --secure-boot` does (`SecureBootFaultKind`,
 /// `SignatureFaultKind`): `KIND: WORDS`.
 ///
-/// For any other name it is `unknown kind of fault`, and the status `Refused`. Where a request for memory is refused
+/// The name may be in any letter case. For any other it is `unknown name of a code or of a fault`, and the status
+/// `Refused`. Where a request for memory is refused
 /// the answer is `Memory`, and where the writer fails it is `Write`. What was written before is then left open.
 pub fn explain_kind<W: Write>(alloc: Global, out: &mut W, name: &str) -> Result<Status, ToolFault>
-    ensures ok { IfOk result (λ status. (text : List ℕ) × ExplainsKind name.now status text
+    ensures ok { IfOk result (λ status. (text : List ℕ) × ExplainsKind (spelled name.now) status text
         × Appends (W.contents out.old) (W.contents out.new) text) }
     ensures err { FailsByMemoryOrWrite result }
 {
-    answer(alloc, name)?.print(out)
+    answer(alloc, spelled(name))?.print(out)
 }

@@ -20,8 +20,11 @@ use Rattle.tpm_model.specs.Premises.{code_in}
 use Rattle.tpm_model.proofs.OwnCode.{code_again}
 use Rattle.tpm_device.specs.declared.authorization.Authorization.{Authorization}
 use Rattle.tpm_device.specs.declared.device.Device.{Device}
-use Rattle.tpm_device.specs.Stands.{holds, presented_with, done_of, acted, Steps, Stands, Replies, Rolls, told, step_of}
-use Rattle.tpm_device.specs.Stands.{MayBePerformed, IsPerformed, Begin, End, Acting, IsActed}
+use Rattle.tpm_device.specs.Stands.{holds, Stands}
+use Rattle.tpm_device.specs.inner.Checks.{presented_with}
+use Rattle.tpm_device.specs.inner.Actions.{done_of, acted, Steps, step_of, Acting, IsActed}
+use Rattle.tpm_device.specs.inner.Answers.{Replies, Rolls, told}
+use Rattle.tpm_device.specs.inner.Performing.{MayBePerformed, IsPerformed, Begin, End}
 use Rattle.tpm_device.proofs.Passing.{params_refuse, refused_with_code, was_done, was_refused, with_params, without_params}
 
 pub implied : {A E : Type 0} (P Q : A → Type 0) (r : Result A E) → ((x : A) → P x → Q x) → IfOk r P → IfOk r Q

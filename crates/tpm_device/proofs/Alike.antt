@@ -13,7 +13,9 @@ use Rattle.tpm_model.specs.Present.{Present, present}
 use Rattle.tpm_model.specs.Entities.{Entity, Register, Null, Owner, entity_of, index_entity, auth_value}
 use Rattle.tpm_model.specs.Entities.{is_owner_entity}
 use Rattle.tpm_device.specs.declared.device.Device.{Device}
-use Rattle.tpm_device.specs.Stands.{holds, Stands, step_of, owner_authorizes, IsAlike}
+use Rattle.tpm_device.specs.Stands.{holds, Stands}
+use Rattle.tpm_device.specs.inner.Actions.{step_of, IsAlike}
+use Rattle.tpm_device.specs.inner.Checks.{owner_authorizes}
 use Rattle.tpm_device.proofs.Further.{its_sessions, sessions_stay}
 
 -- the entity of a handle, by what it is tested for

@@ -27,7 +27,7 @@ use Rattle.tpm_model.proofs.Sealing.{okay_is}
 use Rattle.tpm_model.proofs.Refused.{handles_read, same_list}
 use Rattle.tpm_session.specs.Entities.{authorized}
 use Rattle.tpm_session.proofs.Authorized.{authorize_refused}
-use Rattle.tpm_device.specs.Stands.{evidence_for, sessions_checked, claim_of, owner_authorizes}
+use Rattle.tpm_device.specs.inner.Checks.{evidence_for, sessions_checked, claim_of, owner_authorizes}
 
 -- ---- the handles
 
@@ -76,13 +76,13 @@ checked_by p x a others e code names params counter auths entity is_code is_para
     ∙ ap (λ (ps : List ℕ). authorize s (entity_of p (first x.handles)) x.header.code names ps counter (a ∷ others)) is_params
     ∙ ap (λ (n : ℕ). authorize s (entity_of p (first x.handles)) x.header.code names x.params n (a ∷ others)) is_counter
     ∙ names_matter s (entity_of p (first x.handles)) x.header.code names (names_of p x.handles) x.params p.registers.update_counter a others are
-    ∙ ap (λ (list : List Auth). authorized p.sessions (record (claim_of p x) { auths = list })) (sym auths)
+    ∙ ap (authorized p.sessions (claim_of p x)) (sym auths)
 
 -- Where the first session names nobody, that is the first refusal.
 pub unnamed : (p : Present) (x : Cut) (a : Auth) (others : List Auth) (code : ℕ) → x.auths ≡ a ∷ others
     → check_loaded a.session (loaded p.sessions a.session) ≡ Err code → sessions_checked p x ≡ Err code
 unnamed p x a others code auths is =
-    ap (λ (list : List Auth). authorized p.sessions (record (claim_of p x) { auths = list })) auths
+    ap (authorized p.sessions (claim_of p x)) auths
     ∙ authorize_refused (loaded p.sessions a.session) (entity_of p (first x.handles)) x.header.code (names_of p x.handles) x.params
     p.registers.update_counter a others code (sym is)
 

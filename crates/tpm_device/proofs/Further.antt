@@ -17,7 +17,8 @@ use Rattle.tpm_model.specs.Sessions.{Session, sessions_at}
 use Rattle.tpm_model.specs.Counters.{NvMemory, nv_by, nv_memory}
 use Rattle.tpm_model.specs.Present.{Present}
 use Rattle.tpm_device.specs.declared.device.Device.{Device}
-use Rattle.tpm_device.specs.Stands.{Stands, Steps, step_of}
+use Rattle.tpm_device.specs.Stands.{Stands}
+use Rattle.tpm_device.specs.inner.Actions.{Steps, step_of}
 
 abbrev made : Bool → List ℕ → Registers → List (Option Session) → NvMemory → Present
 made started owner registers sessions nv = record { started = started; owner = owner; registers = registers; sessions = sessions; nv = nv }

@@ -33,9 +33,12 @@ use Rattle.tpm_model.proofs.Refused.{refused_with}
 use Rattle.tpm_model.proofs.OwnCode.{no_session_read, needs_it}
 use Rattle.tpm_device.specs.declared.authorization.Authorization.{Authorization}
 use Rattle.tpm_device.specs.declared.device.Device.{Device}
-use Rattle.tpm_device.specs.Stands.{holds, evidence_for, sessions_checked, owner_authorizes, IsAdmitted, IsRead, step_of}
-use Rattle.tpm_device.specs.Stands.{IsPermittedBy, presented_with, done_of, Steps, Replies, Rolls, MayBePerformed, IsPerformed, Begin, End}
-use Rattle.tpm_device.specs.Stands.{reply_bytes, told, IsAuthorization}
+use Rattle.tpm_device.specs.Stands.{holds}
+use Rattle.tpm_device.specs.inner.Checks.{evidence_for, sessions_checked, owner_authorizes, IsAdmitted, IsRead}
+use Rattle.tpm_device.specs.inner.Checks.{IsPermittedBy, presented_with, IsAuthorization}
+use Rattle.tpm_device.specs.inner.Actions.{step_of, done_of, Steps}
+use Rattle.tpm_device.specs.inner.Answers.{Replies, Rolls, reply_bytes, told}
+use Rattle.tpm_device.specs.inner.Performing.{MayBePerformed, IsPerformed, Begin, End}
 use Rattle.tpm_device.proofs.Alike.{alike}
 use Rattle.tpm_device.proofs.Checked.{owner_read}
 use Rattle.tpm_session.proofs.Authorized.{authorized}

@@ -7,7 +7,7 @@ use Rattle.tpm_buffer.specs.Responses.{response, response_front, response_tag, r
 use Rattle.tpm_buffer.specs.Responses.{without_sessions, parameter_size}
 use Rattle.tpm_buffer.specs.Commands.{command_size}
 use Rattle.tpm_model.specs.Answers.{reply_params}
-use Rattle.tpm_device.specs.Stands.{any_bare, is_bare, reply_bytes}
+use Rattle.tpm_device.specs.inner.Answers.{any_bare, is_bare, reply_bytes}
 
 -- All have the same bytes.
 pub same_bytes : (body : ReplyBody) (auths : List AuthReply) → is_bare body ≡ true →

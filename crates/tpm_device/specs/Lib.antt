@@ -1,3 +1,4 @@
 pub mod Runs
 pub mod Lives
 pub mod Stands
+pub mod inner

@@ -5,7 +5,8 @@ ghost use Rattle.tpm_commands.specs.Handles.{needs_authorization};
 ghost use Rattle.tpm_commands.specs.Parameters.{params_code};
 ghost use Rattle.tpm_buffer.specs.Commands.{body_from};
 ghost use Rattle.tpm_model.specs.Actions.{action};
-ghost use Rattle.tpm_device.specs.Stands.{holds, acted, step_of, Steps};
+ghost use Rattle.tpm_device.specs.Stands.{holds};
+ghost use Rattle.tpm_device.specs.inner.Actions.{acted, step_of, Steps};
 
 use crate::device::Device;
 use crate::handles::{bind, by, first_index, policy, register, register_or_null, second_index};

@@ -7,7 +7,8 @@ ghost use Rattle.tpm_types.specs.declared.command_code.CommandCode.TheVariants a
 ghost use Rattle.tpm_commands.specs.declared.command_parameters.Params.TheVariants as of_command;
 ghost use Rattle.tpm_commands.specs.Parameters.{parameters};
 ghost use Rattle.tpm_model.specs.Answers.{performed as performed_of};
-ghost use Rattle.tpm_device.specs.Stands.{holds, MayBePerformed, IsPerformed};
+ghost use Rattle.tpm_device.specs.Stands.{holds};
+ghost use Rattle.tpm_device.specs.inner.Performing.{MayBePerformed, IsPerformed};
 
 use crate::authorization::Authorization;
 use crate::device::Device;
@@ -43,7 +44,7 @@ fn asserted_in(areas: &Areas<'_>) -> Result<(Digest, Selections), u32>
 }
 
 impl Device {
-    /// As `performed`, where the command is TPM2_PolicyPCR.
+    /// As `performed_by_action`, where the command is TPM2_PolicyPCR.
     #[inline(never)]
     pub(crate) fn performed_asserting(
         &mut self,

@@ -1,87 +1,44 @@
 //! The authorization of a command.
 
-ghost use Rattle.std.specs.Prelude.{◌≡◌, ◌==◌, ◌≤◌, false, length, slice_get, Some, Err, MatchResult};
+ghost use Rattle.std.specs.Prelude.{◌≡◌, ◌==◌, ◌≤◌, false, length};
 ghost use Rattle.tpm_types.specs.Handles.{rs_pw};
 ghost use Rattle.tpm_model.specs.Entities.{entity_of, name_of, names_of};
 ghost use Rattle.tpm_session.specs.Entities.{entity_in};
-ghost use Rattle.tpm_model.specs.Present.{Present};
-ghost use Rattle.tpm_device.specs.Stands.{holds, sessions_checked, entity_at};
-ghost use Rattle.tpm_device.specs.Stands.{Authorizes, IsAuthorization, IsFound};
+ghost use Rattle.tpm_device.specs.Stands.{holds};
+ghost use Rattle.tpm_device.specs.inner.Checks.{sessions_checked, Authorizes, IsAuthorization, IsFound};
 
 use crate::device::Device;
 use arrayvec::ArrayVec;
 use tpm_buffer::{Areas, AuthRef};
 use tpm_commands::first_handle;
-use tpm_session::{Authority, Entity};
+use tpm_session::{Authority, Claim, Entity};
 use tpm_types::{Name, NvIndex, PcrIndex, RH_OWNER, name_of_handle};
 
-/// What a handle names that is the first of a command which needs authorization (Part 2, 7.2).
-#[derive(Clone, Copy)]
-pub(crate) enum EntityHandle {
-    Register,
-    Null,
-    Owner,
-    Index(NvIndex),
-}
-
-/// How a command is authorized: its first session, who that names, and what its first handle names.
+/// How a command is authorized: its first session, and who that names.
 #[derive(Drop)]
 pub(crate) struct Authorization<'a> {
     pub session: AuthRef<'a>,
     pub by: Authority,
-    pub entity: EntityHandle,
-}
-
-impl EntityHandle {
-    fn of(handle: u32) -> Self
-        ensures { (p : Present) → entity_at p result ≡ entity_of p handle }
-    {
-        if PcrIndex::from_number(handle).is_some() {
-            return EntityHandle::Register;
-        }
-        if handle == RH_OWNER {
-            return EntityHandle::Owner;
-        }
-        match NvIndex::from_number(handle) {
-            Some(index) => EntityHandle::Index(index),
-            None => EntityHandle::Null,
-        }
-    }
 }
 
 impl Device {
-    /// The entity of this handle, as it is now.
-    pub(crate) fn entity(&self, handle: EntityHandle) -> Entity<'_>
-        ensures { entity_in result ≡ entity_at (holds self.now) handle }
+    /// What a handle names that is the first of a command which needs authorization, as it is now (Part 2, 7.2).
+    pub(crate) fn entity(&self, handle: u32) -> Entity<'_>
+        ensures { entity_in result ≡ entity_of (holds self.now) handle }
     {
-        match handle {
-            EntityHandle::Register => Entity::Register,
-            EntityHandle::Null => Entity::Null,
-            EntityHandle::Owner => Entity::Owner(self.owner.as_slice()),
-            EntityHandle::Index(index) => match self.counters.definition(index) {
-                Some(definition) => Entity::Index(definition),
-                None => Entity::Null,
-            },
+        if PcrIndex::from_number(handle).is_some() {
+            return Entity::Register;
         }
-    }
-
-    // How the command of this first session is authorized, or REFERENCE_S0.
-    #[inline(always)]
-    fn authorization_by<'a>(
-        &self,
-        areas: &Areas<'a>,
-        session: AuthRef<'a>,
-    ) -> Result<Authorization<'a>, u32>
-        requires first { Some session ≡ slice_get areas.now.auths 0 }
-        ensures { MatchResult result (Authorizes self.now.sessions areas.now)
-            (λ code. sessions_checked (holds self.now) areas.now ≡ Err code) }
-    {
-        let by = self.sessions.authority(&session)?;
-        Ok(Authorization {
-            session,
-            by,
-            entity: EntityHandle::of(first_handle(areas.handles())),
-        })
+        if handle == RH_OWNER {
+            return Entity::Owner(self.owner.as_slice());
+        }
+        let Some(index) = NvIndex::from_number(handle) else {
+            return Entity::Null;
+        };
+        match self.counters.definition(index) {
+            Some(definition) => Entity::Index(definition),
+            None => Entity::Null,
+        }
     }
 
     /// How the command is authorized, where it has sessions; or REFERENCE_S0, where the first is not
@@ -95,7 +52,10 @@ impl Device {
     {
         match areas.auth(0) {
             None => Ok(None),
-            Some(session) => Ok(Some(self.authorization_by(areas, session)?)),
+            Some(session) => {
+                let by = self.sessions.authority(&session)?;
+                Ok(Some(Authorization { session, by }))
+            }
         }
     }
 
@@ -142,17 +102,15 @@ impl Device {
             names.now ≡ names_of (holds self.now) areas.now.handles }
         ensures { result ≡ sessions_checked (holds self.now) areas.now }
     {
-        let entity = self.entity(by.entity);
-        self.sessions.authorize_by(
-            by.by,
-            &by.session,
-            areas.auth_count(),
-            &entity,
-            areas.code(),
+        let claim = Claim {
+            entity: self.entity(first_handle(areas.handles())),
+            command: areas.code(),
             names,
-            areas.params(),
-            self.registers.update_counter(),
-        )
+            params: areas.params(),
+            update_counter: self.registers.update_counter(),
+        };
+        self.sessions
+            .authorize_by(by.by, &by.session, areas.auth_count(), &claim)
     }
 
     // The same where it is no password, which would cover no Names.

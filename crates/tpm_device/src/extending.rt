@@ -1,4 +1,5 @@
-//! TPM2_PCR_Extend from its parameters to its reply. Neither goes through the room of the longest.
+//! TPM2_PCR_Extend from its parameters to its reply. Neither goes through the room of the longest, which would be
+//! filled to its end: the command takes 1.11 times its hashes (docs/SPEED.md).
 
 ghost use Rattle.std.specs.Prelude.{◌≡◌, ◌≤◌, length, Ok, Err};
 ghost use Rattle.tpm_wire.specs.Reading.{read_all, Gives};
@@ -7,7 +8,9 @@ ghost use Rattle.tpm_commands.specs.declared.command_parameters.Params.TheVarian
 ghost use Rattle.tpm_commands.specs.Parameters.{parameters};
 ghost use Rattle.tpm_buffer.specs.Commands.{body_from};
 ghost use Rattle.tpm_model.specs.Answers.{performed as performed_of};
-ghost use Rattle.tpm_device.specs.Stands.{holds, MayBePerformed, IsPerformed, done_of};
+ghost use Rattle.tpm_device.specs.Stands.{holds};
+ghost use Rattle.tpm_device.specs.inner.Performing.{MayBePerformed, IsPerformed};
+ghost use Rattle.tpm_device.specs.inner.Actions.{done_of};
 
 use crate::authorization::Authorization;
 use crate::device::Device;
@@ -61,7 +64,7 @@ impl Device {
         Ok(())
     }
 
-    /// As `performed`, where the command is TPM2_PCR_Extend.
+    /// As `performed_by_action`, where the command is TPM2_PCR_Extend.
     #[inline(never)]
     pub(crate) fn performed_extending(
         &mut self,

@@ -8,8 +8,9 @@ ghost use Rattle.tpm_model.specs.Present.{Present};
 ghost use Rattle.tpm_model.specs.Authorization.{Evidence, reply_auths};
 ghost use Rattle.tpm_model.specs.Answers.{reply_params};
 ghost use Rattle.tpm_model.specs.Premises.{code_in};
-ghost use Rattle.tpm_device.specs.Stands.{evidence_for, IsAlike, Authorizes, IsAuthorization};
-ghost use Rattle.tpm_device.specs.Stands.{Replies, Rolls, is_bare, bare_bytes, reply_bytes};
+ghost use Rattle.tpm_device.specs.inner.Checks.{evidence_for, Authorizes, IsAuthorization};
+ghost use Rattle.tpm_device.specs.inner.Actions.{IsAlike};
+ghost use Rattle.tpm_device.specs.inner.Answers.{Replies, Rolls, is_bare, bare_bytes, reply_bytes};
 
 use crate::authorization::Authorization;
 use crate::device::Device;
@@ -18,7 +19,7 @@ use crate::response::{
     put_reply_params, put_reply_with,
 };
 use tpm_buffer::Areas;
-use tpm_commands::ReplyBody;
+use tpm_commands::{ReplyBody, first_handle};
 use tpm_session::Authority;
 use tpm_types::AuthReply;
 
@@ -37,7 +38,7 @@ impl Device {
             evidence_for p areas.now ≡ Ok e →
             reply_auths e areas.now.header.code params.now nonce.now ≡ result ∷ [] }
     {
-        let entity = self.entity(by.entity);
+        let entity = self.entity(first_handle(areas.handles()));
         self.sessions
             .reply_auth(by.by, &by.session, &entity, areas.code(), params, nonce)
     }
@@ -147,25 +148,18 @@ impl Device {
         }
     }
 
-    // After a command that was authorized so: the nonce of its session rolls, or its slot is free.
-    // A password leaves nothing.
-    fn roll_by(&mut self, by: &Authorization<'_>, nonce: &[u8; 64])
-        ensures { (x : Cut) →
-            Authorizes self.old.sessions x by.now →
-            Rolls self.old x.auths nonce.now self.new }
-    {
-        self.sessions
-            .roll(by.by, nonce, by.session.attrs().continues());
-    }
-
-    /// After a command that was authorized so, done and answered.
+    /// After a command that was authorized so, done and answered: the nonce of its session rolls, or its slot is free.
+    /// A password leaves nothing.
     pub(crate) fn roll(&mut self, by: &Option<Authorization<'_>>, nonce: &[u8; 64])
         ensures { (x : Cut) →
             IsAuthorization self.old.sessions x by.now →
             Rolls self.old x.auths nonce.now self.new }
     {
         match by {
-            Some(how) => self.roll_by(how, nonce),
+            Some(how) => {
+                self.sessions
+                    .roll(how.by, nonce, how.session.attrs().continues());
+            }
             None => {}
         }
     }

@@ -10,7 +10,7 @@ ghost use Rattle.tpm_types.specs.Tpmt.{digest_value};
 ghost use Rattle.tpm_commands.specs.Replies.{code_for_reply, parameters_of_reply, reply_handles, reply_handles_of};
 ghost use Rattle.tpm_model.specs.Answers.{answered};
 ghost use Rattle.tpm_model.specs.Authorization.{password_reply as password_reply_of};
-ghost use Rattle.tpm_device.specs.Stands.{bare_bytes, reply_bytes};
+ghost use Rattle.tpm_device.specs.inner.Answers.{bare_bytes, reply_bytes};
 
 use arrayvec::ArrayVec;
 use tpm_buffer::{NO_SESSIONS, RSP_COMMAND, SESSIONS};

@@ -12,7 +12,10 @@ ghost use Rattle.tpm_commands.specs.Parameters.{parameters};
 ghost use Rattle.tpm_buffer.specs.Commands.{body_from};
 ghost use Rattle.tpm_model.specs.Answers.{performed as performed_of};
 ghost use Rattle.tpm_model.specs.Premises.{code_in};
-ghost use Rattle.tpm_device.specs.Stands.{holds, IsAuthorization, MayBePerformed, IsPerformed, Replies};
+ghost use Rattle.tpm_device.specs.Stands.{holds};
+ghost use Rattle.tpm_device.specs.inner.Checks.{IsAuthorization};
+ghost use Rattle.tpm_device.specs.inner.Performing.{MayBePerformed, IsPerformed};
+ghost use Rattle.tpm_device.specs.inner.Answers.{Replies};
 
 use crate::authorization::Authorization;
 use crate::device::Device;
@@ -69,7 +72,7 @@ impl Device {
         self.put_done(&body, areas, by, nonce, out);
     }
 
-    /// As `performed`, where the command is TPM2_StartAuthSession.
+    /// As `performed_by_action`, where the command is TPM2_StartAuthSession.
     #[inline(never)]
     pub(crate) fn performed_starting(
         &mut self,

@@ -1,5 +1,6 @@
 //! Logs, quotes, event data, and what logs tell of Secure Boot.
 
+mod event_data_contents;
 mod event_data_device_paths;
 mod event_data_device_securities;
 mod event_data_measured;
@@ -11,3 +12,4 @@ mod log_sources;
 mod quote_attests;
 mod quote_quotes;
 mod secure_boot_verdicts;
+mod vouched_records;

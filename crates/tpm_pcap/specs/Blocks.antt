@@ -4,13 +4,16 @@ use Rattle.tpm_pcap.specs.declared.block.Block.{Block as RustBlock}
 use Rattle.tpm_pcap.specs.declared.block.Framed.{Framed as RustFramed}
 use Rattle.tpm_pcap.specs.declared.block.Interface.{Interface}
 use Rattle.tpm_pcap.specs.declared.block.Packet.{Packet as RustPacket}
+use Rattle.tpm_pcap.specs.declared.block.Ticks.{Ticks}
 use Rattle.tpm_pcap.specs.declared.entry.Reason.{Reason}
 use Rattle.tpm_pcap.specs.declared.numbers.Order.{Order}
 use Rattle.tpm_pcap.specs.declared.block.Block.TheVariants as rust
 
--- a packet: the number of its interface in the section, from 0, how many bytes it had, and those that were captured
+-- a packet: the number of its interface in the section, from 0, its time, how many bytes it had, and those that were
+-- captured
 pub record Packet : Type 0 where
   pub interface : ℕ
+  pub ticks : Ticks
   pub size : ℕ
   pub bytes : List ℕ
 
@@ -33,7 +36,7 @@ abbrev pub Read : Type 0
 Read = Result Framed Reason
 
 abbrev pub packet_as : RustPacket → Packet
-packet_as p = record { interface = p.interface; size = p.size; bytes = p.bytes.now }
+packet_as p = record { interface = p.interface; ticks = p.ticks; size = p.size; bytes = p.bytes.now }
 
 abbrev pub block_as : RustBlock → Block
 block_as (rust.Section order) = Section order

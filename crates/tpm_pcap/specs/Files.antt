@@ -1,6 +1,7 @@
 -- What a file tells: of libpcap's format (pcap-savefile(5)), or of pcapng (IETF draft-ietf-opsawg-pcapng).
 use Rattle.std.specs.Prelude.{ℕ, zero, suc, ◌+◌, ◌%◌, ◌==◌, nat_lt, List, [], ◌∷◌, ◌++◌, length, drop, Option, Some}
 use Rattle.std.specs.Prelude.{None, Ok, Err, if◌then◌else◌}
+use Rattle.tpm_pcap.specs.declared.entry.Stamp.{Stamp}
 use Rattle.tpm_pcap.specs.declared.file.Format.TheVariants.{Savefile, Pcapng}
 use Rattle.tpm_pcap.specs.declared.file.Format.{Format}
 use Rattle.tpm_pcap.specs.declared.file.Reader.{Reader as RustReader}
@@ -13,7 +14,8 @@ use Rattle.tpm_pcap.specs.Links.{link_of}
 use Rattle.tpm_pcap.specs.Numbers.{number4_in}
 use Rattle.tpm_pcap.specs.Pcapng.{block_in}
 use Rattle.tpm_pcap.specs.Savefiles.{record_in}
-use Rattle.tpm_pcap.specs.Sections.{Section, section_as, new_section, with_interface, simple_packet, found_of}
+use Rattle.tpm_pcap.specs.Sections.{Section, section_as, new_section, with_interface, packet_time, simple_packet}
+use Rattle.tpm_pcap.specs.Sections.{found_of}
 use Rattle.tpm_pcap.specs.Talks.{Talk, talk_as, new_talk, after_found, found_told, unfinished}
 use Rattle.tpm_pcap.specs.Blocks as blocks
 use Rattle.tpm_pcap.specs.Pcapng as pcapng
@@ -22,25 +24,29 @@ use Rattle.tpm_pcap.specs.declared.file.Traffic.TheVariants as rust
 
 -- ---- how far a file has been read
 
--- the section, the connection that is told, and the number of the next packet
+-- the simulator's port, the section, the connection that is told, and the number of the next packet
 pub record Reader : Type 0 where
+  pub port : ℕ
   pub section : Section
   pub talk : Talk
   pub packet : ℕ
 
 abbrev pub reader_as : RustReader → Reader
-reader_as r = record { section = section_as r.section; talk = talk_as r.talk; packet = r.packet }
+reader_as r = record { port = r.port; section = section_as r.section; talk = talk_as r.talk; packet = r.packet }
 
-abbrev pub reader_of : Section → Reader
-reader_of s = record { section = s; talk = new_talk; packet = 1 }
+abbrev pub reader_of : (port : ℕ) → Section → Reader
+reader_of port s = record { port = port; section = s; talk = new_talk; packet = 1 }
 
 -- ---- a block
 
 abbrev pub after_packet : Reader → Packet → Reader
-after_packet r p = record r { talk = after_found r.talk (found_of r.section p); packet = r.packet + 1 }
+after_packet r p = record r { talk = after_found r.talk (found_of r.port r.section p); packet = r.packet + 1 }
+
+abbrev pub packet_stamp : Reader → Packet → Stamp
+packet_stamp r p = record { packet = r.packet; time = packet_time r.section p }
 
 abbrev pub packet_told : Reader → Packet → List Entry
-packet_told r p = found_told r.packet r.talk (found_of r.section p)
+packet_told r p = found_told (packet_stamp r p) r.talk (found_of r.port r.section p)
 
 -- A new section has interfaces of its own.
 abbrev pub after_block : Reader → Block → Reader
@@ -79,8 +85,8 @@ entries_from format (suc most) r bytes =
     else read_told r (next_in format r.section.order bytes) (λ b. entries_from format most (after_block r b.block)
     (drop b.size bytes))
 
-abbrev pub entries_of : Format → Section → List ℕ → List Entry
-entries_of format s bytes = entries_from format (length bytes) (reader_of s) bytes
+abbrev pub entries_of : (port : ℕ) → Format → Section → List ℕ → List Entry
+entries_of port format s bytes = entries_from format (length bytes) (reader_of port s) bytes
 
 -- ---- a file
 
@@ -96,29 +102,31 @@ traffic_as (rust.OtherLink number) = OtherLink number
 traffic_as (rust.Entries entries) = Entries (entries_as entries.items)
 
 -- libpcap's: behind its header, on the one interface of its kind of link
-abbrev pub on_link : Order → Link → Section
-on_link order link = with_interface (new_section order) (record { link = Some link; limit = 0 })
-
-abbrev pub savefile_over : Order → (number : ℕ) → Option Link → List ℕ → Traffic
-savefile_over order number None bytes = OtherLink number
-savefile_over order number (Some link) bytes = Entries (entries_of Savefile (on_link order link) (drop 24 bytes))
+abbrev pub on_link : Order → Link → (per_second : ℕ) → Section
+on_link order link per_second =
+    with_interface (new_section order) (record { link = Some link; limit = 0; per_second = per_second })
 
 abbrev pub link_number : Order → List ℕ → ℕ
 link_number order bytes = number4_in order bytes 20 % 65536
 
-abbrev pub savefile_by : Option Order → List ℕ → Traffic
-savefile_by None bytes = NoCapture
-savefile_by (Some order) bytes =
-    savefile_over order (link_number order bytes) (link_of (link_number order bytes)) bytes
+abbrev pub savefile_over : (port : ℕ) → Order → Option Link → List ℕ → Traffic
+savefile_over port order None bytes = OtherLink (link_number order bytes)
+savefile_over port order (Some link) bytes =
+    Entries (entries_of port Savefile (on_link order link (savefile.per_second bytes)) (drop 24 bytes))
 
-abbrev pub savefile_traffic : List ℕ → Traffic
-savefile_traffic bytes =
-    if nat_lt (length bytes) 24 then NoCapture else savefile_by (savefile.order_of bytes) bytes
+abbrev pub savefile_by : (port : ℕ) → Option Order → List ℕ → Traffic
+savefile_by port None bytes = NoCapture
+savefile_by port (Some order) bytes = savefile_over port order (link_of (link_number order bytes)) bytes
+
+abbrev pub savefile_traffic : (port : ℕ) → List ℕ → Traffic
+savefile_traffic port bytes =
+    if nat_lt (length bytes) 24 then NoCapture else savefile_by port (savefile.order_of bytes) bytes
 
 -- pcapng's, whose first block begins a section
-abbrev pub traffic_by : Option Order → List ℕ → Traffic
-traffic_by None bytes = savefile_traffic bytes
-traffic_by (Some order) bytes = Entries (entries_of Pcapng (new_section order) bytes)
+abbrev pub traffic_by : (port : ℕ) → Option Order → List ℕ → Traffic
+traffic_by port None bytes = savefile_traffic port bytes
+traffic_by port (Some order) bytes = Entries (entries_of port Pcapng (new_section order) bytes)
 
-abbrev pub traffic_in : List ℕ → Traffic
-traffic_in bytes = traffic_by (pcapng.order_of bytes) bytes
+-- on the port of a simulator
+abbrev pub traffic_in : (port : ℕ) → List ℕ → Traffic
+traffic_in port bytes = traffic_by port (pcapng.order_of bytes) bytes

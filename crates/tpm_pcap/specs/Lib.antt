@@ -2,11 +2,13 @@ pub mod Numbers
 pub mod Links
 pub mod Blocks
 pub mod Savefiles
+pub mod Options
 pub mod Pcapng
 pub mod Segments
 pub mod Sections
 pub mod Messages
 pub mod Entries
+pub mod Times
 pub mod Ways
 pub mod Talks
 pub mod Files

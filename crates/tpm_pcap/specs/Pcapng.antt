@@ -2,6 +2,7 @@
 use Rattle.std.specs.Prelude.{ℕ, ◌-◌, ◌%◌, ◌==◌, ◌||◌, ◌&&◌, nat_lt, not, Bool, List, length, take, drop, Option, Some}
 use Rattle.std.specs.Prelude.{None, Result, Ok, Err, if◌then◌else◌}
 use Rattle.tpm_pcap.specs.declared.block.Interface.{Interface}
+use Rattle.tpm_pcap.specs.declared.block.Ticks.TheVariants.{Units}
 use Rattle.tpm_pcap.specs.declared.entry.Reason.TheVariants.{CutShort, Malformed}
 use Rattle.tpm_pcap.specs.declared.entry.Reason.{Reason}
 use Rattle.tpm_pcap.specs.declared.numbers.Order.TheVariants.{Big, Little}
@@ -9,6 +10,7 @@ use Rattle.tpm_pcap.specs.declared.numbers.Order.{Order}
 use Rattle.tpm_pcap.specs.Blocks.{Block, Section, Describes, Captured, Simple, Other, Read}
 use Rattle.tpm_pcap.specs.Links.{link_of}
 use Rattle.tpm_pcap.specs.Numbers.{number2_in, number4, number4_in}
+use Rattle.tpm_pcap.specs.Options.{per_second_in}
 
 -- ---- Section Header Block: its type, which is the same in either order, and Byte-Order Magic
 
@@ -31,11 +33,14 @@ header_in order block =
     if nat_lt (length block) 28 || not (number2_in order block 12 == 1) then None
     else Some (Section order)
 
--- ---- Interface Description Block (type 1): LinkType, 2 bytes that say nothing, and SnapLen
+-- ---- Interface Description Block (type 1): LinkType, 2 bytes that say nothing, SnapLen, and options
 
 abbrev pub interface_of : Order → (block : List ℕ) → Interface
-interface_of order block =
-    record { link = link_of (number2_in order block 8); limit = number4_in order block 12 }
+interface_of order block = record {
+  link = link_of (number2_in order block 8);
+  limit = number4_in order block 12;
+  per_second = per_second_in order (take (length block - 20) (drop 16 block));
+}
 
 abbrev pub interface_in : Order → (block : List ℕ) → Option Block
 interface_in order block =
@@ -49,14 +54,15 @@ simple_in order block =
     if nat_lt (length block) 16 then None
     else Some (Simple (number4_in order block 8) (take (length block - 16) (drop 12 block)))
 
--- ---- Enhanced Packet Block (type 6): Interface ID, the time, Captured Packet Length, Original Packet Length, and
--- ---- Packet Data
+-- ---- Enhanced Packet Block (type 6): Interface ID, both halves of the time, Captured Packet Length, Original Packet
+-- ---- Length, and Packet Data
 
 abbrev pub enhanced_in : Order → (block : List ℕ) → Option Block
 enhanced_in order block =
     if nat_lt (length block) 32 || nat_lt (length block - 32) (number4_in order block 20) then None
     else Some (Captured (record {
       interface = number4_in order block 8;
+      ticks = Units (number4_in order block 12) (number4_in order block 16);
       size = number4_in order block 24;
       bytes = take (number4_in order block 20) (drop 28 block);
     }))

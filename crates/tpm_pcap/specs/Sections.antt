@@ -3,11 +3,14 @@
 use Rattle.std.specs.Prelude.{ℕ, ◌==◌, nat_lt, min, List, [], ◌∷◌, ◌++◌, length, take, Option, Some, None, slice_get}
 use Rattle.std.specs.Prelude.{if◌then◌else◌}
 use Rattle.tpm_pcap.specs.declared.block.Interface.{Interface}
+use Rattle.tpm_pcap.specs.declared.block.Ticks.TheVariants.{Untold}
+use Rattle.tpm_pcap.specs.declared.block.Ticks.{Ticks}
 use Rattle.tpm_pcap.specs.declared.link.Link.{Link}
 use Rattle.tpm_pcap.specs.declared.numbers.Order.{Order}
 use Rattle.tpm_pcap.specs.declared.section.Section.{Section as RustSection}
 use Rattle.tpm_pcap.specs.Blocks.{Packet}
 use Rattle.tpm_pcap.specs.Segments.{Found, found_by}
+use Rattle.tpm_pcap.specs.Times.{time_of}
 
 pub record Section : Type 0 where
   pub order : Order
@@ -39,10 +42,20 @@ captured_on (Some interface) size = if interface.limit == 0 then size else min i
 abbrev pub simple_packet : Section → (size : ℕ) → List ℕ → Packet
 simple_packet s size bytes = record {
   interface = 0;
+  ticks = Untold;
   size = size;
   bytes = take (captured_on (slice_get s.interfaces 0) size) bytes;
 }
 
--- what is found in a packet
-abbrev pub found_of : Section → Packet → Found
-found_of s p = found_by (link_of_interface (slice_get s.interfaces p.interface)) (length p.bytes == p.size) p.bytes
+-- when a packet was captured, by the units of its interface
+abbrev pub time_on : Option Interface → Ticks → Option ℕ
+time_on None ticks = None
+time_on (Some interface) ticks = time_of interface.per_second ticks
+
+abbrev pub packet_time : Section → Packet → Option ℕ
+packet_time s p = time_on (slice_get s.interfaces p.interface) p.ticks
+
+-- what is found in a packet, of a simulator on this port
+abbrev pub found_of : (port : ℕ) → Section → Packet → Found
+found_of port s p = found_by (link_of_interface (slice_get s.interfaces p.interface))
+    (record { port = port; whole = length p.bytes == p.size }) p.bytes

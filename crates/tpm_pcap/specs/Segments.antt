@@ -3,7 +3,9 @@ use Rattle.std.specs.Prelude.{ℕ, ◌-◌, ◌*◌, ◌/◌, ◌%◌, ◌<◌, 
 use Rattle.std.specs.Prelude.{take, drop, slice_index, Option, Some, None, if◌then◌else◌}
 use Rattle.tpm_pcap.specs.declared.link.Link.{Link}
 use Rattle.tpm_pcap.specs.declared.segment.Found.{Found as RustFound}
+use Rattle.tpm_pcap.specs.declared.segment.Ends.{Ends as RustEnds}
 use Rattle.tpm_pcap.specs.declared.segment.Segment.{Segment as RustSegment}
+use Rattle.tpm_pcap.specs.declared.segment.Sought.{Sought}
 use Rattle.tpm_pcap.specs.Links.{head_size, carries_internet}
 use Rattle.tpm_pcap.specs.Numbers.{number2, number4}
 use Rattle.tpm_pcap.specs.declared.segment.Found.TheVariants as rust
@@ -48,6 +50,14 @@ found_as rust.Fragment = Fragment
 found_as rust.UnknownLink = UnknownLink
 found_as (rust.Segment s) = OnPort (segment_as s)
 
+-- the addresses of a packet
+pub record Ends : Type 0 where
+  pub source : List ℕ
+  pub target : List ℕ
+
+abbrev pub ends_as : RustEnds → Ends
+ends_as e = record { source = e.source.now; target = e.target.now }
+
 -- The packet ends before a header does. So it is, or so it was captured.
 abbrev pub lacking : (whole : Bool) → Found
 lacking true = Other
@@ -55,53 +65,48 @@ lacking false = Lacking
 
 -- ---- TCP
 
--- mssim's port for commands, and swtpm's for data
-abbrev pub port : ℕ
-port = 2321
-
 -- SYN, of the control bits
 abbrev pub opens : ℕ → Bool
 opens flags = (flags / 2) % 2 == 1
-
--- the segment with this header, of so many bytes, from an address to another
-abbrev pub segment_of : (source target tcp : List ℕ) → (size : ℕ) → (payload : List ℕ) → Segment
-segment_of source target tcp size payload = record {
-  to_tpm = number2 tcp 2 == port;
-  client = if number2 tcp 2 == port then source else target;
-  simulator = if number2 tcp 2 == port then target else source;
-  port = if number2 tcp 2 == port then number2 tcp 0 else number2 tcp 2;
-  number = number4 tcp 4;
-  opens = opens (slice_index tcp 13);
-  size = size;
-  payload = payload;
-}
-
-abbrev pub is_on_port : List ℕ → Bool
-is_on_port tcp = number2 tcp 0 == port || number2 tcp 2 == port
 
 -- Data Offset: how many bytes the header has
 abbrev pub tcp_head : List ℕ → ℕ
 tcp_head tcp = (slice_index tcp 12 / 16) * 4
 
+-- the segment on this port that carries so many bytes
+abbrev pub segment_of : (port : ℕ) → Ends → (size : ℕ) → (tcp : List ℕ) → Segment
+segment_of port ends size tcp = record {
+  to_tpm = number2 tcp 2 == port;
+  client = if number2 tcp 2 == port then ends.source else ends.target;
+  simulator = if number2 tcp 2 == port then ends.target else ends.source;
+  port = if number2 tcp 2 == port then number2 tcp 0 else number2 tcp 2;
+  number = number4 tcp 4;
+  opens = opens (slice_index tcp 13);
+  size = size;
+  payload = take size (drop (tcp_head tcp) tcp);
+}
+
+abbrev pub is_on_port : (port : ℕ) → List ℕ → Bool
+is_on_port port tcp = number2 tcp 0 == port || number2 tcp 2 == port
+
 -- in so many bytes of TCP, of which these were captured
-unfoldable pub in_tcp : (whole : Bool) → (source target : List ℕ) → (size : ℕ) → List ℕ → Found
-in_tcp whole source target size tcp =
-    if nat_lt (length tcp) 20 then lacking whole
-    else if not (is_on_port tcp) then Other
+unfoldable pub in_tcp : Sought → Ends → (size : ℕ) → List ℕ → Found
+in_tcp sought ends size tcp =
+    if nat_lt (length tcp) 20 then lacking sought.whole
+    else if not (is_on_port sought.port tcp) then Other
     else if nat_lt (tcp_head tcp) 20 || nat_lt size (tcp_head tcp) then Other
-    else OnPort (segment_of source target tcp (size - tcp_head tcp)
-    (take (size - tcp_head tcp) (drop (tcp_head tcp) tcp)))
+    else OnPort (segment_of sought.port ends (size - tcp_head tcp) tcp)
 
 -- ---- IP
 
 -- in a packet of IPv4: Protocol is TCP, it is no fragment (More Fragments and Fragment Offset are 0), and Total Length
 -- says how many bytes it has
-unfoldable pub in_version4 : (whole : Bool) → List ℕ → Found
-in_version4 whole bytes =
-    if nat_lt (length bytes) 20 then lacking whole
+unfoldable pub in_version4 : Sought → List ℕ → Found
+in_version4 sought bytes =
+    if nat_lt (length bytes) 20 then lacking sought.whole
     else if not (slice_index bytes 9 == 6) then Other
     else if not (number2 bytes 6 % 16384 == 0) then Fragment
-    else in_tcp whole (take 4 (drop 12 bytes)) (take 4 (drop 16 bytes))
+    else in_tcp sought (record { source = take 4 (drop 12 bytes); target = take 4 (drop 16 bytes) })
     (number2 bytes 2 - (slice_index bytes 0 % 16) * 4) (drop ((slice_index bytes 0 % 16) * 4) bytes)
 
 -- a fragment of IPv6, by the protocol of what it is a part of
@@ -109,32 +114,33 @@ abbrev pub fragment : ℕ → Found
 fragment protocol = if protocol == 6 then Fragment else Other
 
 -- in a packet of IPv6: Next Header is TCP, or a fragment of that
-unfoldable pub in_version6 : (whole : Bool) → List ℕ → Found
-in_version6 whole bytes =
-    if nat_lt (length bytes) 40 then lacking whole
+unfoldable pub in_version6 : Sought → List ℕ → Found
+in_version6 sought bytes =
+    if nat_lt (length bytes) 40 then lacking sought.whole
     else if slice_index bytes 6 == 44 then fragment (slice_index bytes 40)
     else if not (slice_index bytes 6 == 6) then Other
-    else in_tcp whole (take 16 (drop 8 bytes)) (take 16 (drop 24 bytes)) (number2 bytes 4) (drop 40 bytes)
+    else in_tcp sought (record { source = take 16 (drop 8 bytes); target = take 16 (drop 24 bytes) }) (number2 bytes 4)
+    (drop 40 bytes)
 
-unfoldable pub in_internet : (whole : Bool) → List ℕ → Found
-in_internet whole bytes =
-    if slice_index bytes 0 / 16 == 4 then in_version4 whole bytes
-    else if slice_index bytes 0 / 16 == 6 then in_version6 whole bytes
-    else if length bytes == 0 then lacking whole
+unfoldable pub in_internet : Sought → List ℕ → Found
+in_internet sought bytes =
+    if slice_index bytes 0 / 16 == 4 then in_version4 sought bytes
+    else if slice_index bytes 0 / 16 == 6 then in_version6 sought bytes
+    else if length bytes == 0 then lacking sought.whole
     else Other
 
 -- ---- a packet
 
 -- in a packet of this kind of link, all of which was captured or not
-unfoldable pub found_in : Link → (whole : Bool) → List ℕ → Found
-found_in link whole bytes =
-    if nat_lt (length bytes) (head_size link) then lacking whole
+unfoldable pub found_in : Link → Sought → List ℕ → Found
+found_in link sought bytes =
+    if nat_lt (length bytes) (head_size link) then lacking sought.whole
     else if not (carries_internet link bytes) then Other
-    else in_internet whole (drop (head_size link) bytes)
+    else in_internet sought (drop (head_size link) bytes)
 
-abbrev pub found_by : Option Link → (whole : Bool) → List ℕ → Found
-found_by None whole bytes = UnknownLink
-found_by (Some link) whole bytes = found_in link whole bytes
+abbrev pub found_by : Option Link → Sought → List ℕ → Found
+found_by None sought bytes = UnknownLink
+found_by (Some link) sought bytes = found_in link sought bytes
 
 -- A packet of the internet has fewer than 2^16 bytes behind its header.
 abbrev pub IsSmall : Found → Type 0

@@ -3,6 +3,7 @@ use Rattle.std.specs.Prelude.{ℕ, ◌==◌, ◌||◌, ◌&&◌, not, Bool, List
 use Rattle.std.specs.Prelude.{if◌then◌else◌}
 use Rattle.std.specs.Str.{bytes_eq}
 use Rattle.tpm_pcap.specs.declared.entry.Reason.TheVariants as reasons
+use Rattle.tpm_pcap.specs.declared.entry.Stamp.{Stamp}
 use Rattle.tpm_pcap.specs.declared.talk.Talk.{Talk as RustTalk}
 use Rattle.tpm_pcap.specs.Entries.{Entry, Connection, Untold}
 use Rattle.tpm_pcap.specs.Segments.{Found, Other, Lacking, Fragment, UnknownLink, OnPort, Segment}
@@ -50,18 +51,18 @@ abbrev pub after_same : Talk → Segment → Talk
 after_same t s =
     if s.to_tpm then record t { to = after_segment t.to s } else record t { back = after_segment t.back s }
 
-abbrev pub same_told : (packet : ℕ) → Talk → Segment → List Entry
-same_told packet t s = if s.to_tpm then segment_told packet t.to s else segment_told packet t.back s
+abbrev pub same_told : Stamp → Talk → Segment → List Entry
+same_told stamp t s = if s.to_tpm then segment_told stamp t.to s else segment_told stamp t.back s
 
 -- ---- a segment of any connection
 
 abbrev pub after_matter : Talk → Segment → Talk
 after_matter t s = if is_same t s then after_same t s else after_same (talk_of s) s
 
-abbrev pub matter_told : (packet : ℕ) → Talk → Segment → List Entry
-matter_told packet t s =
-    if is_same t s then same_told packet t s
-    else unfinished packet t ++ (Connection ∷ same_told packet (talk_of s) s)
+abbrev pub matter_told : Stamp → Talk → Segment → List Entry
+matter_told stamp t s =
+    if is_same t s then same_told stamp t s
+    else unfinished stamp.packet t ++ (Connection ∷ same_told stamp (talk_of s) s)
 
 -- ---- a packet
 
@@ -72,9 +73,9 @@ after_found t Fragment = t
 after_found t UnknownLink = t
 after_found t (OnPort s) = if matters s then after_matter t s else t
 
-abbrev pub found_told : (packet : ℕ) → Talk → Found → List Entry
-found_told packet t Other = []
-found_told packet t Lacking = Untold packet reasons.CutShort ∷ []
-found_told packet t Fragment = Untold packet reasons.Fragment ∷ []
-found_told packet t UnknownLink = Untold packet reasons.UnknownLink ∷ []
-found_told packet t (OnPort s) = if matters s then matter_told packet t s else []
+abbrev pub found_told : Stamp → Talk → Found → List Entry
+found_told stamp t Other = []
+found_told stamp t Lacking = Untold stamp.packet reasons.CutShort ∷ []
+found_told stamp t Fragment = Untold stamp.packet reasons.Fragment ∷ []
+found_told stamp t UnknownLink = Untold stamp.packet reasons.UnknownLink ∷ []
+found_told stamp t (OnPort s) = if matters s then matter_told stamp t s else []

@@ -2,6 +2,7 @@
 use Rattle.std.specs.Prelude.{ℕ, ◌+◌, ◌-◌, ◌%◌, ◌==◌, nat_lt, Bool, true, false, List, [], ◌∷◌, ◌++◌, length}
 use Rattle.std.specs.Prelude.{take, drop, Option, Some, None, if◌then◌else◌}
 use Rattle.tpm_pcap.specs.declared.entry.Reason.TheVariants.{CutShort, SentAgain, OutOfOrder, NoMessage}
+use Rattle.tpm_pcap.specs.declared.entry.Stamp.{Stamp}
 use Rattle.tpm_pcap.specs.declared.message.Measure.TheVariants.{More, Frame, Silent, Broken}
 use Rattle.tpm_pcap.specs.declared.message.Measure.{Measure}
 use Rattle.tpm_pcap.specs.declared.way.Placing.TheVariants.{InOrder, Before, Ahead}
@@ -32,21 +33,21 @@ way_behind (Frame before size) w = record w { held = [] }
 way_behind Silent w = record w { held = [] }
 way_behind Broken w = record w { held = []; lost = true }
 
-abbrev pub measure_told : (to_tpm : Bool) → (packet : ℕ) → Measure → List ℕ → List Entry
-measure_told to_tpm packet More held = []
-measure_told to_tpm packet (Frame before size) held = frame_entry to_tpm (take size (drop before held)) ∷ []
-measure_told to_tpm packet Silent held = []
-measure_told to_tpm packet Broken held = Untold packet NoMessage ∷ []
+abbrev pub measure_told : (to_tpm : Bool) → Stamp → Measure → List ℕ → List Entry
+measure_told to_tpm stamp More held = []
+measure_told to_tpm stamp (Frame before size) held = frame_entry to_tpm stamp (take size (drop before held)) ∷ []
+measure_told to_tpm stamp Silent held = []
+measure_told to_tpm stamp Broken held = Untold stamp.packet NoMessage ∷ []
 
 unfoldable pub after_byte : (to_tpm : Bool) → Way → ℕ → Way
 after_byte to_tpm w byte =
     if w.lost then w
     else way_behind (measured to_tpm (w.held ++ byte ∷ [])) (record w { held = w.held ++ byte ∷ [] })
 
-unfoldable pub byte_told : (to_tpm : Bool) → (packet : ℕ) → Way → ℕ → List Entry
-byte_told to_tpm packet w byte =
+unfoldable pub byte_told : (to_tpm : Bool) → Stamp → Way → ℕ → List Entry
+byte_told to_tpm stamp w byte =
     if w.lost then []
-    else measure_told to_tpm packet (measured to_tpm (w.held ++ byte ∷ [])) (w.held ++ byte ∷ [])
+    else measure_told to_tpm stamp (measured to_tpm (w.held ++ byte ∷ [])) (w.held ++ byte ∷ [])
 
 -- ---- bytes
 
@@ -54,10 +55,10 @@ abbrev pub after_bytes : (to_tpm : Bool) → Way → List ℕ → Way
 after_bytes to_tpm w [] = w
 after_bytes to_tpm w (byte ∷ bytes) = after_bytes to_tpm (after_byte to_tpm w byte) bytes
 
-abbrev pub bytes_told : (to_tpm : Bool) → (packet : ℕ) → Way → List ℕ → List Entry
-bytes_told to_tpm packet w [] = []
-bytes_told to_tpm packet w (byte ∷ bytes) =
-    byte_told to_tpm packet w byte ++ bytes_told to_tpm packet (after_byte to_tpm w byte) bytes
+abbrev pub bytes_told : (to_tpm : Bool) → Stamp → Way → List ℕ → List Entry
+bytes_told to_tpm stamp w [] = []
+bytes_told to_tpm stamp w (byte ∷ bytes) =
+    byte_told to_tpm stamp w byte ++ bytes_told to_tpm stamp (after_byte to_tpm w byte) bytes
 
 -- ---- a segment
 
@@ -90,20 +91,20 @@ after_captured w s =
     if nat_lt (length s.payload) s.size then resumed (behind s)
     else after_bytes s.to_tpm (begun w s) s.payload
 
-abbrev pub captured_told : (packet : ℕ) → Way → Segment → List Entry
-captured_told packet w s =
-    if nat_lt (length s.payload) s.size then Untold packet CutShort ∷ []
-    else bytes_told s.to_tpm packet (begun w s) s.payload
+abbrev pub captured_told : Stamp → Way → Segment → List Entry
+captured_told stamp w s =
+    if nat_lt (length s.payload) s.size then Untold stamp.packet CutShort ∷ []
+    else bytes_told s.to_tpm stamp (begun w s) s.payload
 
 abbrev pub after_placed : Placing → Way → Segment → Way
 after_placed InOrder w s = after_captured w s
 after_placed Before w s = w
 after_placed Ahead w s = resumed (behind s)
 
-abbrev pub placed_told : (packet : ℕ) → Placing → Way → Segment → List Entry
-placed_told packet InOrder w s = captured_told packet w s
-placed_told packet Before w s = Untold packet SentAgain ∷ []
-placed_told packet Ahead w s = Untold packet OutOfOrder ∷ []
+abbrev pub placed_told : Stamp → Placing → Way → Segment → List Entry
+placed_told stamp InOrder w s = captured_told stamp w s
+placed_told stamp Before w s = Untold stamp.packet SentAgain ∷ []
+placed_told stamp Ahead w s = Untold stamp.packet OutOfOrder ∷ []
 
 -- The segment that opens a way counts as one byte.
 unfoldable pub after_segment : Way → Segment → Way
@@ -111,7 +112,7 @@ after_segment w s =
     if s.opens then resumed (number_behind s.number 1)
     else after_placed (place_of w.next s.number) w s
 
-unfoldable pub segment_told : (packet : ℕ) → Way → Segment → List Entry
-segment_told packet w s =
+unfoldable pub segment_told : Stamp → Way → Segment → List Entry
+segment_told stamp w s =
     if s.opens then []
-    else placed_told packet (place_of w.next s.number) w s
+    else placed_told stamp (place_of w.next s.number) w s

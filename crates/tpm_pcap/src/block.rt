@@ -11,6 +11,19 @@ pub(crate) struct Interface {
     pub(crate) link: Option<Link>,
     /// How many bytes of a packet are captured at most, or 0 for all.
     pub(crate) limit: u32,
+    /// How many units of its times a second has, or 0 where that is not known.
+    pub(crate) per_second: u64,
+}
+
+/// A time, in the units of an interface, since 1970 began (UTC).
+#[derive(Clone, Copy, Debug, PartialEq, Eq)]
+pub(crate) enum Ticks {
+    /// None.
+    Untold,
+    /// Seconds, and the units behind them.
+    Seconds(u32, u32),
+    /// Units, of which the first number is the upper half.
+    Units(u32, u32),
 }
 
 /// What was captured of a packet.
@@ -18,6 +31,8 @@ pub(crate) struct Interface {
 pub(crate) struct Packet<'a> {
     /// The number of its interface in the section, from 0.
     pub(crate) interface: u32,
+    /// When it was captured.
+    pub(crate) ticks: Ticks,
     /// How many bytes it had.
     pub(crate) size: u32,
     /// Those of them that were captured.

@@ -21,15 +21,24 @@ pub enum Reason {
     Unfinished,
 }
 
+/// A packet of a file.
+#[derive(Clone, Copy, Debug, PartialEq, Eq)]
+pub struct Stamp {
+    /// Its number, from 1.
+    pub packet: u64,
+    /// How many nanoseconds after 1970 began (UTC) it was captured, where the file tells.
+    pub time: Option<u128>,
+}
+
 /// What went over a simulator's port, one after the other.
 #[derive(Drop)]
 pub enum Entry {
     /// What follows went over another connection.
     Connection,
-    /// A command.
-    Command(Vec<u8>),
-    /// A response.
-    Reply(Vec<u8>),
+    /// A command, and the packet in which it ends.
+    Command(Stamp, Vec<u8>),
+    /// A response, likewise.
+    Reply(Stamp, Vec<u8>),
     /// The packet with this number, from 1, is not told.
     Untold(u64, Reason),
 }

@@ -9,7 +9,7 @@ ghost use Rattle.tpm_pcap.specs.Files.{traffic_in};
 ghost use Rattle.tpm_pcap.specs.Sections.{section_as};
 
 use crate::block::{Block, Interface, Packet, Read};
-use crate::entry::{Entry, Reason};
+use crate::entry::{Entry, Reason, Stamp};
 use crate::link::{Link, link_of};
 use crate::numbers::{Order, number4_in};
 use crate::pcapng::block_in;
@@ -35,6 +35,8 @@ pub(crate) enum Format {
 /// How far a file has been read.
 #[derive(Drop)]
 pub(crate) struct Reader<'a> {
+    // the simulator's port
+    port: u16,
     section: Section,
     talk: Talk<'a>,
     // the number of the next packet
@@ -54,10 +56,11 @@ pub enum Traffic {
 
 impl<'a> Reader<'a> {
     // At the first packet.
-    fn new(alloc: Global, section: Section) -> Self
-        ensures { reader_as result ≡ reader_of (section_as section) }
+    fn new(alloc: Global, port: u16, section: Section) -> Self
+        ensures { reader_as result ≡ reader_of port (section_as section) }
     {
         Reader {
+            port,
             section,
             talk: Talk::new(alloc),
             packet: 1,
@@ -77,8 +80,12 @@ impl<'a> Reader<'a> {
             × (entries_as entries.new.items ≡ entries_as entries.old.items
             ++ packet_told (reader_as self.old) (packet_as packet.now))) }
     {
-        let found = self.section.found_of(packet);
-        self.talk.take(alloc, self.packet, &found, entries)?;
+        let found = self.section.found_of(self.port, packet);
+        let stamp = Stamp {
+            packet: self.packet,
+            time: self.section.time_of(packet),
+        };
+        self.talk.take(alloc, stamp, &found, entries)?;
         self.packet += 1;
         Ok(())
     }
@@ -137,15 +144,16 @@ fn next_in<'a>(format: Format, order: Order, bytes: &'a [u8]) -> Read<'a>
 // Adds what went over the port in the blocks of a section and of those behind it.
 fn take_blocks<'a>(
     alloc: Global,
+    port: u16,
     format: Format,
     section: Section,
     blocks: &'a [u8],
     entries: &mut Vec<Entry>,
 ) -> Result<(), AllocError>
     ensures { OnOk result (entries_as entries.new.items
-        ≡ entries_as entries.old.items ++ entries_of format (section_as section) blocks.now) }
+        ≡ entries_as entries.old.items ++ entries_of port format (section_as section) blocks.now) }
 {
-    let mut reader = Reader::new(alloc, section);
+    let mut reader = Reader::new(alloc, port, section);
     let mut rest = blocks;
     while !rest.is_empty() {
         match next_in(format, reader.section.order, rest) {
@@ -165,33 +173,35 @@ fn take_blocks<'a>(
 // What went over the port in blocks.
 fn traffic_of(
     alloc: Global,
+    port: u16,
     format: Format,
     section: Section,
     blocks: &[u8],
 ) -> Result<Traffic, AllocError>
     ensures { IfOk result (λ traffic. traffic_as traffic
-        ≡ Entries (entries_of format (section_as section) blocks.now)) }
+        ≡ Entries (entries_of port format (section_as section) blocks.now)) }
 {
     let mut entries = Vec::new(alloc);
-    take_blocks(alloc, format, section, blocks, &mut entries)?;
+    take_blocks(alloc, port, format, section, blocks, &mut entries)?;
     Ok(Traffic::Entries(entries))
 }
 
 // The section that a file of libpcap is.
-fn on_link(order: Order, link: Link) -> Section
-    ensures { section_as result ≡ on_link order link }
+fn on_link(order: Order, link: Link, per_second: u64) -> Section
+    ensures { section_as result ≡ on_link order link per_second }
 {
     let mut section = Section::new(order);
     section.describe(Interface {
         link: Some(link),
         limit: 0,
+        per_second,
     });
     section
 }
 
 // What a file tells that is no pcapng.
-fn savefile_traffic(alloc: Global, file: &[u8]) -> Result<Traffic, AllocError>
-    ensures { IfOk result (λ traffic. traffic_as traffic ≡ savefile_traffic file.now) }
+fn savefile_traffic(alloc: Global, file: &[u8], port: u16) -> Result<Traffic, AllocError>
+    ensures { IfOk result (λ traffic. traffic_as traffic ≡ savefile_traffic port file.now) }
 {
     if file.len() < HEAD {
         return Ok(Traffic::NoCapture);
@@ -203,14 +213,14 @@ fn savefile_traffic(alloc: Global, file: &[u8]) -> Result<Traffic, AllocError>
     let Some(link) = link_of(number) else {
         return Ok(Traffic::OtherLink(number));
     };
-    let section = on_link(order, link);
-    traffic_of(alloc, Format::Savefile, section, behind(file, HEAD))
+    let section = on_link(order, link, savefile::per_second(file));
+    traffic_of(alloc, port, Format::Savefile, section, behind(file, HEAD))
 }
 
 /// What went over a TPM simulator's port in the packets of a file of libpcap (pcap-savefile(5)) or of pcapng
 /// (draft-ietf-opsawg-pcapng), in their order.
 ///
-/// The numbers of a file of libpcap are in either order, and its times in microseconds or nanoseconds. Its packets are
+/// The numbers of a file of libpcap are in either order, and its times in microseconds or nanoseconds. Packets are
 /// of IPv4 or IPv6 (RFC 791, RFC 8200) over Ethernet, over Linux's cooked links, over a loopback or over nothing. Those
 /// of other protocols and ports are passed over. A packet of IPv6 with another header than a fragment's between its own
 /// and TCP's, a frame with a VLAN tag or a malformed TCP header is passed over too, and is not named.
@@ -221,7 +231,7 @@ fn savefile_traffic(alloc: Global, file: &[u8]) -> Result<Traffic, AllocError>
 /// interface, or on a link of another kind, is named as on a link that is not known. Of a file of libpcap such a link
 /// is all that is told.
 ///
-/// The port is 2321, mssim's for commands and swtpm's for data. A segment of TCP (RFC 9293) counts where it is the
+/// mssim's port for commands is 2321, and so is swtpm's for data. A segment of TCP (RFC 9293) counts where it is the
 /// next of its way by its number; what it carries may be a part of a message, or several. A message to mssim is
 /// TPM_SEND_COMMAND, a locality, a size and a command, or TPM_SESSION_END; one from it is a size, a response and four
 /// bytes. One of swtpm is a frame alone, and begins with its tag. One connection is told at a time: where a segment of
@@ -235,12 +245,15 @@ fn savefile_traffic(alloc: Global, file: &[u8]) -> Result<Traffic, AllocError>
 /// block is malformed where its length is below 12 or no multiple of four, or isn't repeated at its end. So is one in
 /// which what it is to tell doesn't fit, and a Section Header Block of another magic or major version than 1.
 ///
+/// A message has the number and the time of the packet in which it ends. Of pcapng, Enhanced Packet Blocks have times;
+/// none is told on an interface whose units are not known, or that has an if_tsoffset.
+///
 /// The error is that a request for memory was refused. The whole of what is told is held.
-pub fn traffic_in(alloc: Global, file: &[u8]) -> Result<Traffic, AllocError>
-    ensures { IfOk result (λ traffic. traffic_as traffic ≡ traffic_in file.now) }
+pub fn traffic_in(alloc: Global, file: &[u8], port: u16) -> Result<Traffic, AllocError>
+    ensures { IfOk result (λ traffic. traffic_as traffic ≡ traffic_in port file.now) }
 {
     match pcapng::order_of(file) {
-        Some(order) => traffic_of(alloc, Format::Pcapng, Section::new(order), file),
-        None => savefile_traffic(alloc, file),
+        Some(order) => traffic_of(alloc, port, Format::Pcapng, Section::new(order), file),
+        None => savefile_traffic(alloc, file, port),
     }
 }

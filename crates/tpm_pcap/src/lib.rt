@@ -7,12 +7,16 @@ mod file;
 mod link;
 mod message;
 mod numbers;
+mod options;
 mod pcapng;
 mod savefile;
 mod section;
 mod segment;
 mod talk;
+mod time;
 mod way;
 
-pub use entry::{Entry, Reason};
+pub use entry::{Entry, Reason, Stamp};
 pub use file::{Traffic, traffic_in};
+pub use numbers::{number2, number4};
+pub use segment::behind;

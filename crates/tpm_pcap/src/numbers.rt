@@ -23,7 +23,7 @@ pub(crate) fn byte_at(bytes: &[u8], at: usize) -> u8
 }
 
 /// Two bytes, the most significant first.
-pub(crate) fn number2(bytes: &[u8], at: usize) -> u32
+pub fn number2(bytes: &[u8], at: usize) -> u32
     requires { at < 65536 }
     ensures value { result ≡ number2 bytes.now at }
     ensures most { result < 65536 }
@@ -32,7 +32,7 @@ pub(crate) fn number2(bytes: &[u8], at: usize) -> u32
 }
 
 /// Four bytes, the most significant first.
-pub(crate) fn number4(bytes: &[u8], at: usize) -> u32
+pub fn number4(bytes: &[u8], at: usize) -> u32
     requires { at < 65534 }
     ensures { result ≡ number4 bytes.now at }
 {

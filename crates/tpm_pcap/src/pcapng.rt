@@ -5,10 +5,11 @@ ghost use Rattle.tpm_pcap.specs.Blocks.{block_as, read_as};
 ghost use Rattle.tpm_pcap.specs.Pcapng.{block_in, enhanced_in, header_in, interface_in, is_length, length_in};
 ghost use Rattle.tpm_pcap.specs.Pcapng.{order_at, order_of, simple_in, told_in};
 
-use crate::block::{Block, Framed, Interface, Packet, Read};
+use crate::block::{Block, Framed, Interface, Packet, Read, Ticks};
 use crate::entry::Reason;
 use crate::link::link_of;
 use crate::numbers::{Order, number2_in, number4, number4_in};
+use crate::options::per_second_in;
 use crate::segment::{behind, front};
 
 /// The type of a Section Header Block, which is the same in either order.
@@ -60,6 +61,7 @@ fn interface_in<'a>(order: Order, block: &'a [u8]) -> Option<Block<'a>>
     Some(Block::Interface(Interface {
         link: link_of(number2_in(order, block, 8)),
         limit: number4_in(order, block, 12),
+        per_second: per_second_in(order, front(behind(block, 16), block.len() - 20)),
     }))
 }
 
@@ -82,6 +84,7 @@ fn enhanced_in<'a>(order: Order, block: &'a [u8]) -> Option<Block<'a>>
     }
     Some(Block::Packet(Packet {
         interface: number4_in(order, block, 8),
+        ticks: Ticks::Units(number4_in(order, block, 12), number4_in(order, block, 16)),
         size: number4_in(order, block, 24),
         bytes: front(behind(block, 28), count),
     }))

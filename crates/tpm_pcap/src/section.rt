@@ -2,12 +2,14 @@
 
 ghost use Rattle.std.specs.Prelude.{◌≡◌, slice_get};
 ghost use Rattle.tpm_pcap.specs.Blocks.{packet_as};
-ghost use Rattle.tpm_pcap.specs.Sections.{found_of, new_section, section_as, simple_packet, with_interface};
+ghost use Rattle.tpm_pcap.specs.Sections.{found_of, new_section, packet_time, section_as, simple_packet};
+ghost use Rattle.tpm_pcap.specs.Sections.{with_interface};
 ghost use Rattle.tpm_pcap.specs.Segments.{found_as, IsSmall};
 
-use crate::block::{Interface, Packet};
+use crate::block::{Interface, Packet, Ticks};
 use crate::numbers::Order;
-use crate::segment::{Found, found_by, front};
+use crate::segment::{Found, Sought, found_by, front};
+use crate::time::time_of;
 use arrayvec::ArrayVec;
 
 /// The order of a section's numbers, and the first of its interfaces.
@@ -55,21 +57,33 @@ impl Section {
         };
         Packet {
             interface: 0,
+            ticks: Ticks::Untold,
             size,
             bytes: front(bytes, captured as usize),
         }
     }
 
-    /// What is in a packet on an interface of the section.
-    pub(crate) fn found_of<'a>(&self, packet: &Packet<'a>) -> Found<'a>
-        ensures found { found_as result ≡ found_of (section_as self.now) (packet_as packet.now) }
+    /// When a packet was captured, where that is known.
+    pub(crate) fn time_of(&self, packet: &Packet<'_>) -> Option<u128>
+        ensures { result ≡ packet_time (section_as self.now) (packet_as packet.now) }
+    {
+        time_of(self.interface(packet.interface)?.per_second, packet.ticks)
+    }
+
+    /// What is in a packet on an interface of the section, of a simulator on this port.
+    pub(crate) fn found_of<'a>(&self, port: u16, packet: &Packet<'a>) -> Found<'a>
+        ensures found { found_as result
+            ≡ found_of port (section_as self.now) (packet_as packet.now) }
         ensures small { IsSmall (found_as result) }
     {
         let link = match self.interface(packet.interface) {
             Some(interface) => interface.link,
             None => None,
         };
-        let whole = packet.bytes.len() == packet.size as usize;
-        found_by(link, whole, packet.bytes)
+        let sought = Sought {
+            port,
+            whole: packet.bytes.len() == packet.size as usize,
+        };
+        found_by(link, sought, packet.bytes)
     }
 }

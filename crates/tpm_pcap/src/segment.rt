@@ -1,15 +1,28 @@
 //! Segments of TCP.
 
 ghost use Rattle.std.specs.Prelude.{◌≡◌, ◌<◌, take, drop};
-ghost use Rattle.tpm_pcap.specs.Segments.{fragment, found_as, found_by, found_in, in_internet, in_tcp, in_version4};
-ghost use Rattle.tpm_pcap.specs.Segments.{in_version6, is_on_port, lacking, IsSmall, opens, segment_as, segment_of};
-ghost use Rattle.tpm_pcap.specs.Segments.{tcp_head};
+ghost use Rattle.tpm_pcap.specs.Segments.{ends_as, fragment, found_as, found_by, found_in, in_internet, in_tcp};
+ghost use Rattle.tpm_pcap.specs.Segments.{in_version4, in_version6, is_on_port, lacking, IsSmall, opens, segment_as};
+ghost use Rattle.tpm_pcap.specs.Segments.{segment_of, tcp_head};
 
 use crate::link::{Link, carries_internet, head_size};
 use crate::numbers::{byte_at, number2, number4};
 
-/// The port of a simulator: mssim's for commands, and swtpm's for data.
-const PORT: u32 = 2321;
+/// What is looked for in a packet.
+#[derive(Clone, Copy, Debug, PartialEq, Eq)]
+pub(crate) struct Sought {
+    /// The port of the simulator.
+    pub(crate) port: u16,
+    /// Whether all of the packet was captured.
+    pub(crate) whole: bool,
+}
+
+/// The addresses of a packet.
+#[derive(Drop, Clone, Copy)]
+pub(crate) struct Ends<'a> {
+    pub(crate) source: &'a [u8],
+    pub(crate) target: &'a [u8],
+}
 
 /// A segment on the port.
 #[derive(Drop, Clone, Copy)]
@@ -64,10 +77,10 @@ fn opens(flags: u8) -> bool
     flags / 2 % 2 == 1
 }
 
-fn is_on_port(tcp: &[u8]) -> bool
-    ensures { result ≡ is_on_port tcp.now }
+fn is_on_port(port: u16, tcp: &[u8]) -> bool
+    ensures { result ≡ is_on_port port tcp.now }
 {
-    number2(tcp, 0) == PORT || number2(tcp, 2) == PORT
+    number2(tcp, 0) == port as u32 || number2(tcp, 2) == port as u32
 }
 
 // How many bytes the header has.
@@ -77,23 +90,18 @@ fn tcp_head(tcp: &[u8]) -> usize
     byte_at(tcp, 12) as usize / 16 * 4
 }
 
-// The segment with this header, of so many bytes, from an address to another.
-fn segment_of<'a>(
-    source: &'a [u8],
-    target: &'a [u8],
-    tcp: &'a [u8],
-    size: usize,
-    payload: &'a [u8],
-) -> Segment<'a>
-    ensures { segment_as result ≡ segment_of source.now target.now tcp.now size payload.now }
+// The segment on this port that carries so many bytes.
+fn segment_of<'a>(port: u16, ends: Ends<'a>, size: usize, tcp: &'a [u8]) -> Segment<'a>
+    ensures { segment_as result ≡ segment_of port (ends_as ends.entry) size tcp.now }
 {
     let number = number4(tcp, 4);
     let opens = opens(byte_at(tcp, 13));
-    if number2(tcp, 2) == PORT {
+    let payload = front(behind(tcp, tcp_head(tcp)), size);
+    if number2(tcp, 2) == port as u32 {
         Segment {
             to_tpm: true,
-            client: source,
-            simulator: target,
+            client: ends.source,
+            simulator: ends.target,
             port: number2(tcp, 0),
             number,
             opens,
@@ -103,8 +111,8 @@ fn segment_of<'a>(
     } else {
         Segment {
             to_tpm: false,
-            client: target,
-            simulator: source,
+            client: ends.target,
+            simulator: ends.source,
             port: number2(tcp, 2),
             number,
             opens,
@@ -126,7 +134,7 @@ pub(crate) fn front(bytes: &[u8], most: usize) -> &[u8]
 }
 
 /// All but the first `count` bytes; none where there are fewer.
-pub(crate) fn behind(bytes: &[u8], count: usize) -> &[u8]
+pub fn behind(bytes: &[u8], count: usize) -> &[u8]
     ensures { result.now ≡ drop count bytes.now }
 {
     if bytes.len() < count {
@@ -138,41 +146,34 @@ pub(crate) fn behind(bytes: &[u8], count: usize) -> &[u8]
 
 // What is in so many bytes of TCP, of which these were captured.
 #[tactic(auto, unfolding(crate::specs::Segments::in_tcp))]
-fn in_tcp<'a>(
-    whole: bool,
-    source: &'a [u8],
-    target: &'a [u8],
-    size: usize,
-    tcp: &'a [u8],
-) -> Found<'a>
+fn in_tcp<'a>(sought: Sought, ends: Ends<'a>, size: usize, tcp: &'a [u8]) -> Found<'a>
     requires { size < 65536 }
-    ensures found { found_as result ≡ in_tcp whole source.now target.now size tcp.now }
+    ensures found { found_as result ≡ in_tcp sought (ends_as ends.entry) size tcp.now }
     ensures small { IsSmall (found_as result) }
 {
     if tcp.len() < 20 {
-        return lacking(whole);
+        return lacking(sought.whole);
     }
-    if !is_on_port(tcp) {
+    if !is_on_port(sought.port, tcp) {
         return Found::Other;
     }
     let head = tcp_head(tcp);
     if head < 20 || size < head {
         return Found::Other;
     }
-    let payload = front(behind(tcp, head), size - head);
-    Found::Segment(segment_of(source, target, tcp, size - head, payload))
+    Found::Segment(segment_of(sought.port, ends, size - head, tcp))
 }
 
 // ---- IP
 
 // What is in a packet of IPv4.
 #[tactic(auto, unfolding(crate::specs::Segments::in_version4))]
-fn in_version4<'a>(whole: bool, bytes: &'a [u8]) -> Found<'a>
-    ensures found { found_as result ≡ in_version4 whole bytes.now }
+fn in_version4<'a>(sought: Sought, bytes: &'a [u8]) -> Found<'a>
+    ensures found { found_as result ≡ in_version4 sought bytes.now }
     ensures small { IsSmall (found_as result) }
 {
     if bytes.len() < 20 {
-        return lacking(whole);
+        return lacking(sought.whole);
     }
     if byte_at(bytes, 9) != 6 {
         return Found::Other;
@@ -182,13 +183,11 @@ fn in_version4<'a>(whole: bool, bytes: &'a [u8]) -> Found<'a>
     }
     let head = byte_at(bytes, 0) as usize % 16 * 4;
     let size = (number2(bytes, 2) as usize).saturating_sub(head);
-    in_tcp(
-        whole,
-        &bytes[12..16],
-        &bytes[16..20],
-        size,
-        behind(bytes, head),
-    )
+    let ends = Ends {
+        source: &bytes[12..16],
+        target: &bytes[16..20],
+    };
+    in_tcp(sought, ends, size, behind(bytes, head))
 }
 
 // What a fragment of IPv6 is, by the protocol of what it is a part of.
@@ -205,12 +204,12 @@ fn fragment<'a>(protocol: u8) -> Found<'a>
 
 // What is in a packet of IPv6.
 #[tactic(auto, unfolding(crate::specs::Segments::in_version6))]
-fn in_version6<'a>(whole: bool, bytes: &'a [u8]) -> Found<'a>
-    ensures found { found_as result ≡ in_version6 whole bytes.now }
+fn in_version6<'a>(sought: Sought, bytes: &'a [u8]) -> Found<'a>
+    ensures found { found_as result ≡ in_version6 sought bytes.now }
     ensures small { IsSmall (found_as result) }
 {
     if bytes.len() < 40 {
-        return lacking(whole);
+        return lacking(sought.whole);
     }
     let next = byte_at(bytes, 6);
     if next == 44 {
@@ -220,25 +219,23 @@ fn in_version6<'a>(whole: bool, bytes: &'a [u8]) -> Found<'a>
         return Found::Other;
     }
     let size = number2(bytes, 4) as usize;
-    in_tcp(
-        whole,
-        &bytes[8..24],
-        &bytes[24..40],
-        size,
-        behind(bytes, 40),
-    )
+    let ends = Ends {
+        source: &bytes[8..24],
+        target: &bytes[24..40],
+    };
+    in_tcp(sought, ends, size, behind(bytes, 40))
 }
 
 // What is in a packet of the internet.
 #[tactic(auto, unfolding(crate::specs::Segments::in_internet))]
-fn in_internet<'a>(whole: bool, bytes: &'a [u8]) -> Found<'a>
-    ensures found { found_as result ≡ in_internet whole bytes.now }
+fn in_internet<'a>(sought: Sought, bytes: &'a [u8]) -> Found<'a>
+    ensures found { found_as result ≡ in_internet sought bytes.now }
     ensures small { IsSmall (found_as result) }
 {
     match byte_at(bytes, 0) / 16 {
-        4 => in_version4(whole, bytes),
-        6 => in_version6(whole, bytes),
-        _ if bytes.is_empty() => lacking(whole),
+        4 => in_version4(sought, bytes),
+        6 => in_version6(sought, bytes),
+        _ if bytes.is_empty() => lacking(sought.whole),
         _ => Found::Other,
     }
 }
@@ -247,26 +244,26 @@ fn in_internet<'a>(whole: bool, bytes: &'a [u8]) -> Found<'a>
 
 // What is in a packet of this kind of link, all of which was captured or not.
 #[tactic(auto, unfolding(crate::specs::Segments::found_in))]
-fn found_in<'a>(link: Link, whole: bool, bytes: &'a [u8]) -> Found<'a>
-    ensures found { found_as result ≡ found_in link whole bytes.now }
+fn found_in<'a>(link: Link, sought: Sought, bytes: &'a [u8]) -> Found<'a>
+    ensures found { found_as result ≡ found_in link sought bytes.now }
     ensures small { IsSmall (found_as result) }
 {
     if bytes.len() < head_size(link) {
-        return lacking(whole);
+        return lacking(sought.whole);
     }
     if !carries_internet(link, bytes) {
         return Found::Other;
     }
-    in_internet(whole, &bytes[head_size(link)..])
+    in_internet(sought, &bytes[head_size(link)..])
 }
 
 /// What is in a packet of this kind of link, if that is known.
-pub(crate) fn found_by<'a>(link: Option<Link>, whole: bool, bytes: &'a [u8]) -> Found<'a>
-    ensures found { found_as result ≡ found_by link whole bytes.now }
+pub(crate) fn found_by<'a>(link: Option<Link>, sought: Sought, bytes: &'a [u8]) -> Found<'a>
+    ensures found { found_as result ≡ found_by link sought bytes.now }
     ensures small { IsSmall (found_as result) }
 {
     match link {
-        Some(link) => found_in(link, whole, bytes),
+        Some(link) => found_in(link, sought, bytes),
         None => Found::UnknownLink,
     }
 }

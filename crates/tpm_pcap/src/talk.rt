@@ -6,7 +6,7 @@ ghost use Rattle.tpm_pcap.specs.Segments.{found_as, segment_as, IsSmall};
 ghost use Rattle.tpm_pcap.specs.Talks.{after_found, after_matter, after_same, found_told, is_same};
 ghost use Rattle.tpm_pcap.specs.Talks.{matter_told, matters, new_talk, same_told, talk_as, talk_of, unfinished};
 
-use crate::entry::{Entry, Reason};
+use crate::entry::{Entry, Reason, Stamp};
 use crate::segment::{Found, Segment};
 use crate::way::Way;
 use std::alloc::{AllocError, Global};
@@ -79,7 +79,7 @@ impl<'a> Talk<'a> {
     fn take_same(
         &mut self,
         alloc: Global,
-        packet: u64,
+        stamp: Stamp,
         segment: &Segment<'a>,
         entries: &mut Vec<Entry>,
     ) -> Result<(), AllocError>
@@ -87,12 +87,12 @@ impl<'a> Talk<'a> {
         ensures { OnOk result ((talk_as self.new
             ≡ after_same (talk_as self.old) (segment_as segment.now))
             × (entries_as entries.new.items ≡ entries_as entries.old.items
-            ++ same_told packet (talk_as self.old) (segment_as segment.now))) }
+            ++ same_told stamp (talk_as self.old) (segment_as segment.now))) }
     {
         if segment.to_tpm {
-            self.to.segment(alloc, packet, segment, entries)
+            self.to.segment(alloc, stamp, segment, entries)
         } else {
-            self.back.segment(alloc, packet, segment, entries)
+            self.back.segment(alloc, stamp, segment, entries)
         }
     }
 
@@ -100,7 +100,7 @@ impl<'a> Talk<'a> {
     fn take_matter(
         &mut self,
         alloc: Global,
-        packet: u64,
+        stamp: Stamp,
         segment: &Segment<'a>,
         entries: &mut Vec<Entry>,
     ) -> Result<(), AllocError>
@@ -108,22 +108,22 @@ impl<'a> Talk<'a> {
         ensures { OnOk result ((talk_as self.new
             ≡ after_matter (talk_as self.old) (segment_as segment.now))
             × (entries_as entries.new.items ≡ entries_as entries.old.items
-            ++ matter_told packet (talk_as self.old) (segment_as segment.now))) }
+            ++ matter_told stamp (talk_as self.old) (segment_as segment.now))) }
     {
         if self.is_same(segment) {
-            return self.take_same(alloc, packet, segment, entries);
+            return self.take_same(alloc, stamp, segment, entries);
         }
-        self.end(packet, entries)?;
+        self.end(stamp.packet, entries)?;
         entries.push(Entry::Connection)?;
         *self = Talk::begun(alloc, segment);
-        self.take_same(alloc, packet, segment, entries)
+        self.take_same(alloc, stamp, segment, entries)
     }
 
     /// Takes what was found in a packet.
     pub(crate) fn take(
         &mut self,
         alloc: Global,
-        packet: u64,
+        stamp: Stamp,
         found: &Found<'a>,
         entries: &mut Vec<Entry>,
     ) -> Result<(), AllocError>
@@ -131,25 +131,25 @@ impl<'a> Talk<'a> {
         ensures { OnOk result ((talk_as self.new
             ≡ after_found (talk_as self.old) (found_as found.now))
             × (entries_as entries.new.items ≡ entries_as entries.old.items
-            ++ found_told packet (talk_as self.old) (found_as found.now))) }
+            ++ found_told stamp (talk_as self.old) (found_as found.now))) }
     {
         match found {
             Found::Other => Ok(()),
             Found::Lacking => {
-                entries.push(Entry::Untold(packet, Reason::CutShort))?;
+                entries.push(Entry::Untold(stamp.packet, Reason::CutShort))?;
                 Ok(())
             }
             Found::Fragment => {
-                entries.push(Entry::Untold(packet, Reason::Fragment))?;
+                entries.push(Entry::Untold(stamp.packet, Reason::Fragment))?;
                 Ok(())
             }
             Found::UnknownLink => {
-                entries.push(Entry::Untold(packet, Reason::UnknownLink))?;
+                entries.push(Entry::Untold(stamp.packet, Reason::UnknownLink))?;
                 Ok(())
             }
             Found::Segment(segment) => {
                 if matters(segment) {
-                    self.take_matter(alloc, packet, segment, entries)
+                    self.take_matter(alloc, stamp, segment, entries)
                 } else {
                     Ok(())
                 }

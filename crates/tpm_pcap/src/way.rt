@@ -7,7 +7,7 @@ ghost use Rattle.tpm_pcap.specs.Ways.{after_byte, after_bytes, after_captured, a
 ghost use Rattle.tpm_pcap.specs.Ways.{bytes_told, captured_told, is_before, new_way, number_behind};
 ghost use Rattle.tpm_pcap.specs.Ways.{place_of, resumed, segment_told, way_as};
 
-use crate::entry::{Entry, Reason};
+use crate::entry::{Entry, Reason, Stamp};
 use crate::message::{Measure, measured};
 use crate::segment::{Segment, behind, front};
 use std::alloc::{AllocError, Global};
@@ -83,17 +83,18 @@ impl Way {
         &self,
         alloc: Global,
         to_tpm: bool,
+        stamp: Stamp,
         before: usize,
         size: usize,
     ) -> Result<Entry, AllocError>
         ensures { IfOk result (λ entry. entry_as entry
-            ≡ frame_entry to_tpm (take size (drop before (way_as self.now).held))) }
+            ≡ frame_entry to_tpm stamp (take size (drop before (way_as self.now).held))) }
     {
         let bytes = Vec::from_slice(alloc, front(behind(self.held.as_slice(), before), size))?;
         if to_tpm {
-            Ok(Entry::Command(bytes))
+            Ok(Entry::Command(stamp, bytes))
         } else {
-            Ok(Entry::Reply(bytes))
+            Ok(Entry::Reply(stamp, bytes))
         }
     }
 
@@ -103,13 +104,13 @@ impl Way {
         &mut self,
         alloc: Global,
         to_tpm: bool,
-        packet: u64,
+        stamp: Stamp,
         byte: u8,
         entries: &mut Vec<Entry>,
     ) -> Result<(), AllocError>
         ensures { OnOk result ((way_as self.new ≡ after_byte to_tpm (way_as self.old) byte)
             × (entries_as entries.new.items
-            ≡ entries_as entries.old.items ++ byte_told to_tpm packet (way_as self.old) byte)) }
+            ≡ entries_as entries.old.items ++ byte_told to_tpm stamp (way_as self.old) byte)) }
     {
         if self.lost {
             return Ok(());
@@ -118,7 +119,7 @@ impl Way {
         match measured(to_tpm, self.held.as_slice()) {
             Measure::More => Ok(()),
             Measure::Frame(before, size) => {
-                let frame = self.frame(alloc, to_tpm, before, size)?;
+                let frame = self.frame(alloc, to_tpm, stamp, before, size)?;
                 entries.push(frame)?;
                 self.held.clear();
                 Ok(())
@@ -128,7 +129,7 @@ impl Way {
                 Ok(())
             }
             Measure::Broken => {
-                entries.push(Entry::Untold(packet, Reason::NoMessage))?;
+                entries.push(Entry::Untold(stamp.packet, Reason::NoMessage))?;
                 self.held.clear();
                 self.lost = true;
                 Ok(())
@@ -141,17 +142,17 @@ impl Way {
         &mut self,
         alloc: Global,
         to_tpm: bool,
-        packet: u64,
+        stamp: Stamp,
         bytes: &[u8],
         entries: &mut Vec<Entry>,
     ) -> Result<(), AllocError>
         ensures { OnOk result ((way_as self.new ≡ after_bytes to_tpm (way_as self.old) bytes.now)
             × (entries_as entries.new.items
             ≡ entries_as entries.old.items
-            ++ bytes_told to_tpm packet (way_as self.old) bytes.now)) }
+            ++ bytes_told to_tpm stamp (way_as self.old) bytes.now)) }
     {
         for byte in bytes {
-            self.take(alloc, to_tpm, packet, *byte, entries)?;
+            self.take(alloc, to_tpm, stamp, *byte, entries)?;
         }
         Ok(())
     }
@@ -169,7 +170,7 @@ impl Way {
     fn take_captured(
         &mut self,
         alloc: Global,
-        packet: u64,
+        stamp: Stamp,
         segment: &Segment<'_>,
         entries: &mut Vec<Entry>,
     ) -> Result<(), AllocError>
@@ -177,16 +178,16 @@ impl Way {
         ensures { OnOk result ((way_as self.new
             ≡ after_captured (way_as self.old) (segment_as segment.now))
             × (entries_as entries.new.items ≡ entries_as entries.old.items
-            ++ captured_told packet (way_as self.old) (segment_as segment.now))) }
+            ++ captured_told stamp (way_as self.old) (segment_as segment.now))) }
     {
         if segment.payload.len() < segment.size {
             self.resume(number_behind(segment.number, segment.size));
-            entries.push(Entry::Untold(packet, Reason::CutShort))?;
+            entries.push(Entry::Untold(stamp.packet, Reason::CutShort))?;
             return Ok(());
         }
         self.next = Some(number_behind(segment.number, segment.size));
         self.lost = false;
-        self.take_all(alloc, segment.to_tpm, packet, segment.payload, entries)
+        self.take_all(alloc, segment.to_tpm, stamp, segment.payload, entries)
     }
 
     /// Takes a segment.
@@ -194,7 +195,7 @@ impl Way {
     pub(crate) fn segment(
         &mut self,
         alloc: Global,
-        packet: u64,
+        stamp: Stamp,
         segment: &Segment<'_>,
         entries: &mut Vec<Entry>,
     ) -> Result<(), AllocError>
@@ -202,21 +203,21 @@ impl Way {
         ensures { OnOk result ((way_as self.new
             ≡ after_segment (way_as self.old) (segment_as segment.now))
             × (entries_as entries.new.items ≡ entries_as entries.old.items
-            ++ segment_told packet (way_as self.old) (segment_as segment.now))) }
+            ++ segment_told stamp (way_as self.old) (segment_as segment.now))) }
     {
         if segment.opens {
             self.resume(number_behind(segment.number, 1));
             return Ok(());
         }
         match place_of(self.next, segment.number) {
-            Placing::InOrder => self.take_captured(alloc, packet, segment, entries),
+            Placing::InOrder => self.take_captured(alloc, stamp, segment, entries),
             Placing::Before => {
-                entries.push(Entry::Untold(packet, Reason::SentAgain))?;
+                entries.push(Entry::Untold(stamp.packet, Reason::SentAgain))?;
                 Ok(())
             }
             Placing::Ahead => {
                 self.resume(number_behind(segment.number, segment.size));
-                entries.push(Entry::Untold(packet, Reason::OutOfOrder))?;
+                entries.push(Entry::Untold(stamp.packet, Reason::OutOfOrder))?;
                 Ok(())
             }
         }

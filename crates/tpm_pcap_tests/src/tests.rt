@@ -139,8 +139,8 @@ fn mark_of(reason: Reason) -> &'static str {
 fn is_entry(entry: &Entry, mark: &str, frame: &[u8]) -> bool {
     match entry {
         Entry::Connection => mark == "=",
-        Entry::Command(command) => mark == ">" && command.as_slice() == frame,
-        Entry::Reply(reply) => mark == "<" && reply.as_slice() == frame,
+        Entry::Command(_, command) => mark == ">" && command.as_slice() == frame,
+        Entry::Reply(_, reply) => mark == "<" && reply.as_slice() == frame,
         Entry::Untold(packet, reason) => {
             mark == mark_of(*reason) && frame.len() == 1 && frame[0] as u64 == *packet
         }
@@ -156,7 +156,7 @@ fn told(rt: &impl Abort, alloc: Global, parts: &[&str], wanted: &[(&str, &str)])
             .ok()
             .expect(rt, "memory");
     }
-    let Ok(Traffic::Entries(entries)) = traffic_in(alloc, file.as_slice()) else {
+    let Ok(Traffic::Entries(entries)) = traffic_in(alloc, file.as_slice(), 2321) else {
         assert!(rt; false);
         return;
     };
@@ -285,6 +285,6 @@ fn blocks_that_are_cut_short(rt: HostRuntime) {
 #[test]
 fn files_that_are_no_captures(rt: HostRuntime) {
     let alloc = rt.alloc();
-    assert!(&rt; matches!(traffic_in(alloc, &[]), Ok(Traffic::NoCapture)));
-    assert!(&rt; matches!(traffic_in(alloc, &[0; 24]), Ok(Traffic::NoCapture)));
+    assert!(&rt; matches!(traffic_in(alloc, &[], 2321), Ok(Traffic::NoCapture)));
+    assert!(&rt; matches!(traffic_in(alloc, &[0; 24], 2321), Ok(Traffic::NoCapture)));
 }

@@ -1,2 +1,1 @@
-mod ByBytes
 mod Checks

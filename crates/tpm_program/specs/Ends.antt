@@ -1,5 +1,5 @@
 -- How the program ends: its status, and what it writes on each stream (this profile).
-use Rattle.std.specs.Prelude.{◌≡◌, ◌⊎◌, ◌++◌, ℕ, Bool, true, List, Option, codes, string_bytes}
+use Rattle.std.specs.Prelude.{◌≡◌, ◌⊎◌, ◌++◌, ℕ, Bool, true, List, [], ◌∷◌, Option, codes, string_bytes}
 use Rattle.std.specs.Io.KnownBytes.{Appends}
 use Rattle.std.specs.declared.io.ErrorKind.TheVariants.{OutOfMemory}
 use Rattle.std.specs.declared.io.ErrorKind.{ErrorKind}
@@ -10,7 +10,9 @@ use Rattle.tpm_output.specs.declared.fault.ToolFault.TheVariants as faults
 use Rattle.tpm_output.specs.Status.{status_number}
 use Rattle.tpm_args.specs.declared.stop.Stop.TheVariants.{Help, Usage, Memory}
 use Rattle.tpm_args.specs.declared.stop.Stop.{Stop}
+use Rattle.tpm_args.specs.declared.task.Task.TheVariants.{Build}
 use Rattle.tpm_args.specs.declared.task.Task.{Task}
+use Rattle.tpm_show.specs.Build.{BuildTells}
 use Rattle.tpm_words.specs.Program.{program_app}
 use Rattle.tpm_args.specs.Stop.{Refuses, StopsFor}
 use Rattle.tpm_args.specs.Task.{Asks}
@@ -49,11 +51,29 @@ fault_line fault = fault_text fault ++ codes "\n"
 abbrev pub AskFor : List Text → Task → Type 0
 AskFor words task = Asks (subcommand_of program_app words) task
 
--- The task has an answer, which is on standard output, with its status; or it fails, and the status is 3.
+-- what is told beside the answer of a task: what `build` refuses, and else nothing
+abbrev pub Remarks : Task → List ℕ → Type 0
+Remarks (Build name handles sessions parameters) remark =
+    BuildTells (record {
+      code = name;
+      handles = handles.now;
+      sessions = sessions.now;
+      parameters = parameters.now;
+    }) remark
+Remarks _ remark = remark ≡ []
+
+-- Nothing is on standard error, or the remark, where that took it.
+abbrev pub IsRemarked : (remark : List ℕ) → (told : Bool) → (old new : Option (List ℕ)) → Type 0
+IsRemarked [] told old new = new ≡ old
+IsRemarked (first ∷ others) told old new = told ≡ true → Appends old new (first ∷ others)
+
+-- The task has an answer, which is on standard output, with its status and what is told beside it; or it fails, and the
+-- status is 3.
 abbrev pub EndsFor : Offered → Task → Streams → Ended → Type 0
 EndsFor offered task s ended =
-    ((status : Status) × (text : List ℕ) × Performs offered task status text
-    × (ended.status ≡ status_number status) × Prints s text)
+    ((status : Status) × (text : List ℕ) × (remark : List ℕ) × Performs offered task status text × Remarks task remark
+    × (ended.status ≡ status_number status)
+    × Appends s.out s.out-behind text × IsRemarked remark ended.told s.errors s.errors-behind)
     ⊎ ((fault : Fault) × Fails offered task fault × (ended.status ≡ 3) × Tells s ended.told (fault_line fault))
 
 -- ---- words that ask for none

@@ -5,7 +5,7 @@ use Rattle.std.specs.Borrow.{Bor}
 use Rattle.tpm_output.specs.declared.fault.ToolFault.TheVariants.{Memory, Read, Write, InputTooLong}
 use Rattle.tpm_output.specs.declared.fault.ToolFault.{ToolFault}
 use Rattle.tpm_args.specs.declared.task.Task.TheVariants.{ShowCapture, ShowPackets, ShowNv, Run}
-use Rattle.tpm_args.specs.declared.task.Task.TheVariants.{Check, SecureBoot, Events}
+use Rattle.tpm_args.specs.declared.task.Task.TheVariants.{Check, Events}
 use Rattle.tpm_args.specs.declared.task.Task.{Task}
 use Rattle.tpm_check.specs.Check.{ReadsTooMuchIfList}
 use Rattle.tpm_show.specs.Capture.{ReadsTooMuchCapture}
@@ -15,7 +15,6 @@ use Rattle.tpm_program.specs.declared.cause.Cause.{Cause}
 use Rattle.tpm_program.specs.declared.fault.Fault.TheVariants.{File, Tool}
 use Rattle.tpm_program.specs.declared.fault.Fault.{Fault}
 use Rattle.tpm_program.specs.Offered.{Offered, OfFileIf, OfPlace}
-use Rattle.tpm_program.specs.Performs.{is_coming}
 
 -- ---- files
 
@@ -27,10 +26,9 @@ path_if (Some path) = path.now ∷ []
 -- the paths of the files that a task opens, in this order
 abbrev pub files_of : Task → List (List ℕ)
 files_of (ShowCapture file binary fields json) = path_if file
-files_of (ShowPackets file fields json) = file.now ∷ []
+files_of (ShowPackets file port fields json) = file.now ∷ []
 files_of (ShowNv file) = file.now ∷ []
-files_of (Check log registers quote attest sent required hash json) = log.now ∷ (path_if registers ++ path_if attest)
-files_of (SecureBoot log attest sent required hash any_state json) = log.now ∷ path_if attest
+files_of (Check files options) = files.log.now ∷ (path_if files.registers ++ path_if files.attest)
 files_of (Events log register places digests json) = log.now ∷ []
 files_of _ = []
 
@@ -74,9 +72,9 @@ IsTooLong offered (ShowCapture file binary fields json) =
     OfPlace offered file (λ capture. (rest : Option (List ℕ)) × ReadsTooMuchCapture capture rest)
 IsTooLong offered (Run owner greatest) =
     OfPlace offered None (λ input. (rest : Option (List ℕ)) × ReadsTooMuch input rest)
-IsTooLong offered (Check log registers quote attest sent required hash json) =
-    IsOpened offered log.now
-    × OfFileIf offered registers (λ list. (rest : Option (Option (List ℕ))) × ReadsTooMuchIfList is_coming list rest)
+IsTooLong offered (Check files options) =
+    IsOpened offered files.log.now
+    × OfFileIf offered files.registers (λ list. (rest : Option (Option (List ℕ))) × ReadsTooMuchIfList list rest)
 IsTooLong offered _ = ⊥
 
 -- ---- each task
@@ -119,13 +117,6 @@ FailsAt offered path (Tool Memory) = Unit {0}
 FailsAt offered path (Tool Write) = Unit {0}
 FailsAt offered path (Tool _) = ⊥
 
--- A read of it failed, or memory is wanted, or the like.
-abbrev pub IsNotReadOr : Offered → (path : List ℕ) → Fault → Type 0
-IsNotReadOr offered path (File at cause) = IsNotRead offered path (File at cause)
-IsNotReadOr offered path (Tool Memory) = Unit {0}
-IsNotReadOr offered path (Tool Write) = Unit {0}
-IsNotReadOr offered path (Tool _) = ⊥
-
 -- There is a path, and the file at it is not opened or not read, or memory is wanted, or the answer isn't written.
 abbrev pub FailsAtIf : Offered → (path : Option (Bor (List ℕ))) → Fault → Type 0
 FailsAtIf offered None fault = ⊥
@@ -137,19 +128,3 @@ FailsAtIf offered (Some path) fault = FailsAt offered path.now fault
 abbrev pub read_last : (failures : ℕ) → (log : List ℕ) → (list : Option (Bor (List ℕ))) → List ℕ
 read_last zero log (Some list) = list.now
 read_last _ log list = log
-
--- their paths, how many reads of the log failed, and the bytes of the list
-pub record Beside : Type 0 where
-  pub log : List ℕ
-  pub list : Option (Bor (List ℕ))
-  pub failures : ℕ
-  pub coming : Option (Option (List ℕ))
-
--- why they are not compared
-abbrev pub FailsBeside : Offered → Beside → Fault → Type 0
-FailsBeside offered b (File at cause) = IsNotRead offered (read_last b.failures b.log b.list) (File at cause)
-FailsBeside offered b (Tool InputTooLong) =
-    (rest : Option (Option (List ℕ))) × ReadsTooMuchIfList is_coming b.coming rest
-FailsBeside offered b (Tool Memory) = Unit {0}
-FailsBeside offered b (Tool Write) = Unit {0}
-FailsBeside offered b (Tool Read) = ⊥

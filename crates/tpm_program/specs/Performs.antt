@@ -1,32 +1,30 @@
 -- What the program does for each task (this profile): the status and what it prints.
-use Rattle.std.specs.Prelude.{◌≡◌, ℕ, Bool, true, false, List, [], Option, Some, None, option_map, Result}
+use Rattle.std.specs.Prelude.{◌≡◌, ℕ, Bool, true, false, List, [], Option, Some, None, Result}
 use Rattle.std.specs.Borrow.{Bor}
-use Rattle.tpm_types.specs.declared.tpms.Selection.{Selection}
 use Rattle.tpm_pcr.specs.Registers.{Registers}
 use Rattle.tpm_model.specs.Steps.{Origin, new_origin}
 use Rattle.tpm_log.specs.declared.fault.LogFault.{LogFault}
 use Rattle.tpm_log.specs.Changes.{AreAfter}
 use Rattle.tpm_log.specs.Replays.{LogSource, ReadsFrom, ReplaysFrom}
+use Rattle.tpm_options.specs.declared.CheckOptions.{CheckOptions}
 use Rattle.tpm_output.specs.declared.status.Status.{Status}
 use Rattle.tpm_show.specs.declared.telling.Telling.{Telling}
 use Rattle.tpm_show.specs.Build.{Builds}
 use Rattle.tpm_show.specs.Capture.{ReadsAll, TellsCapture}
+use Rattle.tpm_names.specs.Codes.{code_of_name}
 use Rattle.tpm_show.specs.Explain.{explain_status, explanation}
 use Rattle.tpm_show.specs.Packets.{TellsPackets}
 use Rattle.tpm_show.specs.Show.{Shows, ShowsFields}
 use Rattle.tpm_show.specs.Stream.{OfRead, TellsStream}
 use Rattle.tpm_script.specs.ShowNv.{ShowsNv}
-use Rattle.tpm_check.specs.CheckAttest.{Quoted}
 use Rattle.tpm_check.specs.Checked.{ChecksLog}
-use Rattle.tpm_check.specs.declared.checked.Compared.{Compared}
-use Rattle.tpm_check.specs.Kinds.{ExplainsKind}
+use Rattle.tpm_check.specs.Kinds.{ExplainsKind, spelled}
 use Rattle.tpm_events.specs.ListEvents.{ListsEvents, most_read}
 use Rattle.tpm_check.specs.QuotedBoot.{ChecksSecureBoot}
 use Rattle.tpm_output.specs.Reads.{ReadsUpTo, most_attest}
-use Rattle.tpm_check.specs.SecureBootLines.{TellsSecureBoot}
 use Rattle.tpm_script.specs.Script.{ReadsScript, script, script_text, status_for}
 use Rattle.tpm_args.specs.declared.task.Task.TheVariants.{Show, ShowCapture, ShowPackets, ShowNv, Build, Run}
-use Rattle.tpm_args.specs.declared.task.Task.TheVariants.{Explain, ExplainKind, Check, SecureBoot, Events}
+use Rattle.tpm_args.specs.declared.task.Task.TheVariants.{Explain, ExplainName, Check, Events}
 use Rattle.tpm_args.specs.declared.task.Task.{Task}
 use Rattle.tpm_program.specs.Offered.{Offered, OfFile, OfFileIf, OfPlace}
 
@@ -73,15 +71,12 @@ RunsScript origin coming status text =
 
 -- ---- a log beside a list of registers and quotes
 
--- what is opened: the bytes of a log and of a list, and what is compared besides
+-- what is opened: the bytes of a log and of a list, those that are read of a quote as it was signed, and what is asked
 pub record Opened : Type 0 where
   pub log : Option (List ℕ)
   pub list : Option (Option (List ℕ))
-  pub compared : Compared
-
--- The bytes of a list are those that come.
-abbrev pub is_coming : Option (List ℕ) → Option (List ℕ)
-is_coming coming = coming
+  pub attest : Option (List ℕ)
+  pub options : CheckOptions
 
 -- a source of which no read has failed, and none fails
 abbrev pub unfailing : Option (List ℕ) → LogSource
@@ -92,21 +87,34 @@ PrintsCompared o status text =
     (found : Result Registers LogFault) × (log : Option (List ℕ)) × (list : Option (Option (List ℕ)))
     × ReplaysFrom AreAfter (unfailing o.log) found
     × ReadsFrom AreAfter o.log log found
-    × ChecksLog (record { compared = o.compared; coming = is_coming; list = o.list; list-behind = list }) found
-    status text
+    × ChecksLog (record { options = o.options; attest = o.attest; list = o.list; list-behind = list }) found status text
 
--- what is expected of a quote as it was signed
-pub record Expected : Type 0 where
-  pub sent : Option (Bor (List ℕ))
-  pub required : Option (List Selection)
+-- One of the two, by a flag.
+abbrev pub ByFlag : Bool → (P Q : Type 0) → Type 0
+ByFlag true P Q = P
+ByFlag false P Q = Q
 
-abbrev pub quoted : Expected → List ℕ → Quoted
-quoted e bytes = record { bytes = bytes; sent = option_map (λ s. s.now) e.sent; required = e.required }
+-- Secure Boot where it is asked for, and else the registers
+abbrev pub PrintsChecked : Opened → Status → List ℕ → Type 0
+PrintsChecked o status text =
+    ByFlag o.options.secure_boot
+    (OfFirst most_read (λ bytes. ChecksSecureBoot o.options o.attest bytes status text) o.log)
+    (PrintsCompared o status text)
 
--- This holds of a quote as it was signed, where it has a path.
-abbrev pub OfSigned : Offered → (path : Option (Bor (List ℕ))) → Expected → (Option Quoted → Type 0) → Type 0
-OfSigned offered None e P = P None
-OfSigned offered (Some path) e P = OfFile offered path.now (OfFirst most_attest (λ bytes. P (Some (quoted e bytes))))
+-- This holds of what is read of a quote as it was signed, where it has a path.
+abbrev pub OfAttest : Offered → (path : Option (Bor (List ℕ))) → (Option (List ℕ) → Type 0) → Type 0
+OfAttest offered None P = P None
+OfAttest offered (Some path) P = OfFile offered path.now (OfFirst most_attest (λ bytes. P (Some bytes)))
+
+-- ---- names
+
+abbrev pub ExplainsNamed : (code : Option ℕ) → (name : List ℕ) → Status → List ℕ → Type 0
+ExplainsNamed (Some code) name status text = (status ≡ explain_status code) × (text ≡ explanation code)
+ExplainsNamed None name status text = ExplainsKind (spelled name) status text
+
+-- the name of a response code, or of a kind of fault
+abbrev pub ExplainsName : (name : List ℕ) → Status → List ℕ → Type 0
+ExplainsName name status text = ExplainsNamed (code_of_name name) name status text
 
 -- ---- each task
 
@@ -117,9 +125,9 @@ Performs offered (Show reply false hex) status text = Shows reply hex.now status
 Performs offered (ShowCapture file binary fields json) status text =
     OfPlace offered file (λ capture.
     TellsFrames (form_of binary (record { fields = fields; json = json })) capture status text)
-Performs offered (ShowPackets file fields json) status text =
+Performs offered (ShowPackets file port fields json) status text =
     OfFile offered file.now (OfFirst most_packets (λ bytes.
-    TellsPackets (record { fields = fields; json = json }) bytes status text))
+    TellsPackets (record { fields = fields; json = json }) port bytes status text))
 Performs offered (ShowNv file) status text =
     OfFile offered file.now (OfFirst most_kept (λ bytes. ShowsNv bytes status text))
 Performs offered (Build name handles sessions parameters) status text =
@@ -132,28 +140,12 @@ Performs offered (Build name handles sessions parameters) status text =
 Performs offered (Run owner greatest) status text =
     OfPlace offered None (λ input. RunsScript (new_origin owner greatest) input status text)
 Performs offered (Explain code) status text = (status ≡ explain_status code) × (text ≡ explanation code)
-Performs offered (ExplainKind kind) status text = ExplainsKind kind.now status text
-Performs offered (Check log registers quote attest sent required hash json) status text =
-    OfFile offered log.now (λ log-bytes.
-    OfFileIf offered registers (λ list.
-    OfSigned offered attest (record { sent = sent; required = required }) (λ signed.
-    PrintsCompared (record {
-      log = log-bytes;
-      list = list;
-      compared = record { signed = signed; quote = quote; hash = hash; json = json };
-    }) status text)))
-Performs offered (SecureBoot log None sent required hash any_state json) status text =
-    OfFile offered log.now (OfFirst most_read (λ bytes.
-    TellsSecureBoot (record { json = json; any_state = any_state }) bytes status text))
-Performs offered (SecureBoot log (Some attest) sent required hash any_state json) status text =
-    OfFile offered log.now (λ log-bytes.
-    OfFile offered attest.now (OfFirst most_attest (λ attest-bytes.
-    OfFirst most_read (λ bytes.
-    ChecksSecureBoot (record {
-      signed = quoted (record { sent = sent; required = required }) attest-bytes;
-      hash = hash;
-      asking = record { json = json; any_state = any_state };
-    }) bytes status text) log-bytes)))
+Performs offered (ExplainName name) status text = ExplainsName name.now status text
+Performs offered (Check files options) status text =
+    OfFile offered files.log.now (λ log.
+    OfFileIf offered files.registers (λ list.
+    OfAttest offered files.attest (λ attest.
+    PrintsChecked (record { log = log; list = list; attest = attest; options = options }) status text)))
 Performs offered (Events log register places digests json) status text =
     OfFile offered log.now (OfFirst most_read (λ bytes.
     ListsEvents (record { register = register; places = places; digests = digests; json = json }) bytes status text))

@@ -16,5 +16,5 @@ pub use cause::Cause;
 pub use ended::Ended;
 pub use fault::Fault;
 pub use inputs::Inputs;
-pub use performed::perform;
+pub use performed::{Answered, perform};
 pub use running::{run, run_without_words};

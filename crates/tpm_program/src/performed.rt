@@ -1,39 +1,77 @@
 //! What the program does for a task.
 
-ghost use Rattle.std.specs.Prelude.{ℕ, List, IfOk, IfErr};
+ghost use Rattle.std.specs.Prelude.{◌≡◌, [], ℕ, List, IfOk, IfErr, string_bytes};
 ghost use Rattle.std.specs.Io.KnownBytes.{Appends};
-ghost use Rattle.tpm_program.specs.Performs.{Performs};
+ghost use Rattle.tpm_output.specs.Faults.{FailsByMemoryOrWrite};
+ghost use Rattle.tpm_program.specs.Performs.{ExplainsName, Performs};
+ghost use Rattle.tpm_program.specs.Ends.{Remarks};
 ghost use Rattle.tpm_program.specs.Fails.{Fails};
 
 use crate::fault::Fault;
 use crate::inputs::Inputs;
-use crate::logs::{Booting, Checking, check, events, secure_boot};
+use crate::logs::{check, events};
 use crate::shows::{run_input, show_capture, show_memory, show_traffic};
 use std::alloc::Global;
 use std::io::Write;
 use tpm_args::Task;
-use tpm_check::{Asking, explain_kind};
+use tpm_check::explain_kind;
 use tpm_events::Listing;
+use tpm_names::codes::code_of_name;
+use tpm_output::fault::ToolFault;
 use tpm_output::status::Status;
-use tpm_show::{Telling, build, explain, show, show_fields};
+use tpm_show::{Built, Telling, build, explain, show, show_fields};
 
-/// Performs a task: prints what it asks for, and answers whether all was done.
+/// How a task ended that has an answer.
+#[derive(Drop)]
+pub struct Answered {
+    /// Whether all was done.
+    pub status: Status,
+    /// What is told beside the answer: of parts that `build` refuses a line, and else nothing.
+    pub remark: String,
+}
+
+// A task that has nothing told beside its answer.
+fn silent(alloc: Global, status: Status) -> Answered
+    ensures status { result.status ≡ status }
+    ensures remark { string_bytes result.remark ≡ [] }
+{
+    Answered {
+        status,
+        remark: String::new(alloc),
+    }
+}
+
+// Prints what a response code of this name says, or the kind of a log's fault.
+fn explain_name<W: Write>(alloc: Global, out: &mut W, name: &str) -> Result<Status, ToolFault>
+    ensures ok { IfOk result (λ status. (text : List ℕ) × ExplainsName name.now status text
+        × Appends (W.contents out.old) (W.contents out.new) text) }
+    ensures err { FailsByMemoryOrWrite result }
+{
+    match code_of_name(name) {
+        Some(code) => explain(alloc, out, code),
+        None => explain_kind(alloc, out, name),
+    }
+}
+
+/// Performs a task: prints what it asks for, and answers whether all was done, with what is told beside it.
 ///
 /// What is printed is what the subcommand prints: `show` and `show_fields`, `show_lines` and `show_stream`,
-/// `show_packets`, `show_nv`, `build`, `run_script`, `explain` and `explain_kind`, `check_log`, `tell_secure_boot`,
+/// `show_packets`, `show_nv`, `build`, `run_script`, `explain` and `explain_kind`, `check_log` and
 /// `check_secure_boot`, and `list_events`. The files of a check are opened in this order: the log, the list of
 /// registers, and the quote as it was signed, of which at most 4,096 bytes are read before the log. Of packets at most
 /// 2^30 bytes are read.
 ///
-/// Where a file can't be opened or read, the answer is `File` with its path; else a fault of the subcommand is `Tool`.
+/// The remark is what `build` tells of parts that it refuses. Where a file can't be opened or read, the answer is
+/// `File` with its path; else a fault of the subcommand is `Tool`.
 pub fn perform<'a, I: Inputs, W: Write>(
     alloc: Global,
     inputs: &I,
     out: &mut W,
     task: Task<'a>,
-) -> Result<Status, Fault<'a>>
-    ensures ok { IfOk result (λ status. (text : List ℕ)
-        × Performs (I.offers inputs.now) task.entry status text
+) -> Result<Answered, Fault<'a>>
+    ensures ok { IfOk result (λ answered. (text : List ℕ)
+        × Performs (I.offers inputs.now) task.entry answered.status text
+        × Remarks task.entry (string_bytes answered.remark)
         × Appends (W.contents out.old) (W.contents out.new) text) }
     ensures err { IfErr result (λ fault. Fails (I.offers inputs.now) task.entry fault) }
 {
@@ -42,69 +80,47 @@ pub fn perform<'a, I: Inputs, W: Write>(
             reply,
             fields: true,
             hex,
-        } => Ok(show_fields(alloc, out, reply, hex)?),
+        } => Ok(silent(alloc, show_fields(alloc, out, reply, hex)?)),
         Task::Show {
             reply,
             fields: false,
             hex,
-        } => Ok(show(alloc, out, reply, hex)?),
+        } => Ok(silent(alloc, show(alloc, out, reply, hex)?)),
         Task::ShowCapture {
             file,
             binary,
             fields,
             json,
-        } => show_capture(alloc, inputs, out, file, binary, Telling { fields, json }),
-        Task::ShowPackets { file, fields, json } => {
-            show_traffic(alloc, inputs, out, file, Telling { fields, json })
+        } => {
+            let how = Telling { fields, json };
+            Ok(silent(alloc, show_capture(alloc, inputs, out, file, binary, how)?))
         }
-        Task::ShowNv { file } => show_memory(alloc, inputs, out, file),
+        Task::ShowPackets {
+            file,
+            port,
+            fields,
+            json,
+        } => {
+            let how = Telling { fields, json };
+            Ok(silent(alloc, show_traffic(alloc, inputs, out, file, port, how)?))
+        }
+        Task::ShowNv { file } => Ok(silent(alloc, show_memory(alloc, inputs, out, file)?)),
         Task::Build {
             name,
             handles,
             sessions,
             parameters,
-        } => Ok(build(alloc, out, name, handles, sessions, parameters)?),
-        Task::Run { owner, greatest } => run_input(alloc, inputs, out, &owner, greatest),
-        Task::Explain { code } => Ok(explain(alloc, out, code)?),
-        Task::ExplainKind { kind } => Ok(explain_kind(alloc, out, kind)?),
-        Task::Check {
-            log,
-            registers,
-            quote,
-            attest,
-            nonce,
-            required,
-            hash,
-            json,
         } => {
-            let checking = Checking {
-                log,
-                registers,
-                quote,
-                attest,
-                nonce,
-                hash,
-                json,
-            };
-            check(alloc, inputs, out, &checking, required)
+            let Built { status, remark } = build(alloc, out, name, handles, sessions, parameters)?;
+            Ok(Answered { status, remark })
         }
-        Task::SecureBoot {
-            log,
-            attest,
-            nonce,
-            required,
-            hash,
-            any_state,
-            json,
-        } => {
-            let booting = Booting {
-                log,
-                attest,
-                nonce,
-                hash,
-                asking: Asking { json, any_state },
-            };
-            secure_boot(alloc, inputs, out, &booting, required)
+        Task::Run { owner, greatest } => {
+            Ok(silent(alloc, run_input(alloc, inputs, out, &owner, greatest)?))
+        }
+        Task::Explain { code } => Ok(silent(alloc, explain(alloc, out, code)?)),
+        Task::ExplainName { name } => Ok(silent(alloc, explain_name(alloc, out, name)?)),
+        Task::Check { files, options } => {
+            Ok(silent(alloc, check(alloc, inputs, out, &files, &options)?))
         }
         Task::Events {
             log,
@@ -119,7 +135,7 @@ pub fn perform<'a, I: Inputs, W: Write>(
                 digests,
                 json,
             };
-            events(alloc, inputs, out, log, listing)
+            Ok(silent(alloc, events(alloc, inputs, out, log, listing)?))
         }
     }
 }

@@ -3,12 +3,13 @@
 ghost use Rattle.std.specs.Prelude.{◌≡◌, true, map, string_bytes};
 ghost use Rattle.std.specs.Io.KnownBytes.{Appends};
 ghost use Rattle.tpm_args.specs.declared.stop.Stop.TheVariants.{Help};
-ghost use Rattle.tpm_program.specs.Ends.{Ends, EndsBy, EndsFor, EndsUnread, fault_line};
+ghost use Rattle.tpm_output.specs.Status.{status_number};
+ghost use Rattle.tpm_program.specs.Ends.{Ends, EndsBy, EndsFor, EndsUnread, IsRemarked, fault_line};
 
 use crate::ended::Ended;
 use crate::fault::Fault;
 use crate::inputs::Inputs;
-use crate::performed::perform;
+use crate::performed::{Answered, perform};
 use std::alloc::Global;
 use std::io::{ErrorKind, Write};
 use tpm_args::{Stop, Task, Words, words_not_text};
@@ -75,6 +76,25 @@ fn stopped<W: Write, E: Write>(out: &mut W, errors: &mut E, stop: &Stop) -> Ende
     }
 }
 
+// Tells a remark, where there is one, and answers whether it was taken.
+fn remarks<E: Write>(errors: &mut E, remark: &String) -> bool
+    ensures { IsRemarked (string_bytes remark.now) result (E.contents errors.old) (E.contents errors.new) }
+{
+    remark.is_empty() || errors.write_all(remark.as_bytes()).is_ok()
+}
+
+// Ends with a task's answer.
+fn ends_with<E: Write>(errors: &mut E, answered: &Answered) -> Ended
+    ensures status { result.status ≡ status_number answered.now.status }
+    ensures remark { IsRemarked (string_bytes answered.now.remark) result.told
+        (E.contents errors.old) (E.contents errors.new) }
+{
+    Ended {
+        status: answered.status.number(),
+        told: remarks(errors, &answered.remark),
+    }
+}
+
 // Performs a task, and ends.
 fn performed_for<I: Inputs, W: Write, E: Write>(
     alloc: Global,
@@ -91,10 +111,7 @@ fn performed_for<I: Inputs, W: Write, E: Write>(
     }) result }
 {
     match perform(alloc, inputs, out, task) {
-        Ok(status) => Ended {
-            status: status.number(),
-            told: true,
-        },
+        Ok(answered) => ends_with(errors, &answered),
         Err(fault) => failed(errors, fault),
     }
 }
@@ -102,9 +119,9 @@ fn performed_for<I: Inputs, W: Write, E: Write>(
 /// Runs the program on its words, of which the first is its name.
 ///
 /// What the words ask for (`Words::task`) is performed, as `perform` says: what it prints is written to `out`, and the
-/// status is 0, or 1 where something was refused or differs. What keeps it from its answer is told on `errors`, in a
-/// line, and the status is 3. Where help is asked for the text goes to `out`, and the status is 0; where the words are
-/// at fault it goes to `errors`, and the status is 2.
+/// status is 0, or 1 where something was refused or differs. What `build` refuses is told on `errors`, and so is what
+/// keeps it from its answer, in a line, where the status is 3. Where help is asked for the text goes to `out`, and the
+/// status is 0; where the words are at fault it goes to `errors`, and the status is 2.
 pub fn run<I: Inputs, W: Write, E: Write>(
     alloc: Global,
     words: Vec<String>,

@@ -110,23 +110,25 @@ pub(crate) fn show_capture<'a, I: Inputs, W: Write>(
     }
 }
 
-/// Tells what went over a simulator's port, by the packets in a file.
+/// Tells what went over this port of a simulator, by the packets in a file.
 pub(crate) fn show_traffic<'a, I: Inputs, W: Write>(
     alloc: Global,
     inputs: &I,
     out: &mut W,
     path: &'a str,
+    port: u16,
     how: Telling,
 ) -> Result<Status, Fault<'a>>
     ensures ok { IfOk result (λ status. (text : List ℕ)
-        × Performs (I.offers inputs.now) (ShowPackets path.entry how.fields how.json) status text
+        × Performs (I.offers inputs.now) (ShowPackets path.entry port how.fields how.json)
+        status text
         × Appends (W.contents out.old) (W.contents out.new) text) }
     ensures err { IfErr result (λ fault.
-        Fails (I.offers inputs.now) (ShowPackets path.entry how.fields how.json) fault) }
+        Fails (I.offers inputs.now) (ShowPackets path.entry port how.fields how.json) fault) }
 {
     let mut packets = opened(inputs, path)?;
     match read_up_to(alloc, &mut packets, MOST_PACKETS) {
-        Ok(bytes) => Ok(show_packets(alloc, out, bytes.as_slice(), how)?),
+        Ok(bytes) => Ok(show_packets(alloc, out, bytes.as_slice(), port, how)?),
         Err(fault) => Err(of_reading(inputs, fault, path)),
     }
 }

@@ -1,2 +1,3 @@
 pub mod Quotes
 mod Requiring
+mod Signed

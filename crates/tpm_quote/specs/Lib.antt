@@ -1,2 +1,3 @@
 -- What contracts on quotes say.
 pub mod Attests
+pub mod Signatures

@@ -18,7 +18,7 @@ use Rattle.tpm_model.specs.Policies.{Assertion, policy_digest}
 use Rattle.tpm_model.specs.Sessions.{Session, Start, slot_of, begun, clears, asserted_by, pcr_assertion, pcr_asserted}
 use Rattle.tpm_model.specs.Sessions.{is_handle_of, if_of_kind, session_in, loaded, session_at, sessions_at, as_session}
 use Rattle.tpm_model.specs.Sessions.{last_nonce, assertions_of, lives, start_of}
-use Rattle.tpm_session.specs.Policies.{asserting, restarted, with_slot}
+use Rattle.tpm_session.specs.inner.Asserting.{asserting, restarted, with_slot}
 use Rattle.tpm_session.proofs.Slots.{put_at, three, same_test, set_three}
 
 -- ---- a slot that changes

@@ -16,10 +16,10 @@ use Rattle.tpm_model.specs.Authorization.Authorizer.{BySession, Password}
 use Rattle.tpm_model.specs.Authorization.Evidence.{ByMac}
 use Rattle.tpm_model.specs.Authorization.{Authorizer, Evidence, by_session, check_loaded, check_session, check_entity}
 use Rattle.tpm_model.specs.Authorization.{check_evidence, evidence_by, evidence_of, key_for, authorize, reply_auths}
-use Rattle.tpm_model.specs.Authorization.{password_reply}
+use Rattle.tpm_model.specs.Authorization.{password_reply, Signed}
 use Rattle.tpm_session.specs.declared.authorize.Authority.TheVariants as authorities
 use Rattle.tpm_session.specs.declared.authorize.Authority.{Authority}
-use Rattle.tpm_session.specs.Entities.{signed_by, IsAuthority, with_session}
+use Rattle.tpm_session.specs.Entities.{IsAuthority, with_session}
 
 -- ---- the evidence of a command that is authorized
 
@@ -103,6 +103,9 @@ key_by s is_owner value =
 same_key : (s : Session) (e f : Entity) → auth_value e ≡ auth_value f → is_owner_entity e ≡ is_owner_entity f → key_for s e ≡ key_for s f
 unfolding key_by
 same_key s e f value owner = ap (λ (v : List ℕ). key_by s (is_owner_entity e) v) value ∙ ap (λ (b : Bool). key_by s b (auth_value f)) owner
+
+abbrev pub signed_by : Session → Entity → (p_hash : List ℕ) → Auth → Signed
+signed_by s e p_hash a = record { session = s; key = key_for s e; p_hash = p_hash; auth = a }
 
 pub session_replies : (by : Session) (s : Option Session) (e f : Entity) (code : CommandCode) (names : List (List ℕ)) (sent : List ℕ) (counter : ℕ) (a : Auth)
     (others : List Auth) (x : Evidence) (params nonce : List ℕ) (reply : AuthReply)

@@ -24,7 +24,7 @@ use Rattle.tpm_types.specs.declared.tpms.Auth.{Auth}
 use Rattle.tpm_types.specs.Handles.{is_session, is_hmac_session, is_policy, rs_pw}
 use Rattle.tpm_model.proofs.Replay.{no_password}
 use Rattle.tpm_types.specs.Tpma.{continues}
-use Rattle.tpm_session.specs.Answers.{rolled, after_command}
+use Rattle.tpm_session.specs.inner.Asserting.{rolled, after_command}
 
 -- ---- slots
 

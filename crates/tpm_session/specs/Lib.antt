@@ -1,3 +1,4 @@
 pub mod Answers
 pub mod Entities
 pub mod Policies
+pub mod inner

@@ -1,27 +1,30 @@
 //! Whether a command is authorized: the checks of its sessions, in their order (Part 1,
 //! "Authorizations and Acknowledgments"; the order is this profile's).
 
-ghost use Rattle.std.specs.Prelude.{◌≡◌, ◌<◌, suc, List, ◌∷◌, [], length, Ok, Err, IfOk, IfErr, IsErr};
+ghost use Rattle.std.specs.Prelude.{◌≡◌, ◌<◌, suc, List, ◌∷◌, [], length, option_map, Ok, Err, IfOk, IfErr, IsErr};
+ghost use Rattle.std.specs.Prelude.{MatchResult};
 ghost use Rattle.tpm_types.specs.declared.tpms.Auth.{Auth};
 ghost use Rattle.tpm_model.specs.Entities.{auth_value, is_owner_entity};
 ghost use Rattle.tpm_model.specs.Sessions.{loaded};
-ghost use Rattle.tpm_model.specs.Authorization.{Evidence, check_loaded as loaded_checked};
+ghost use Rattle.tpm_model.specs.Authorization.{Evidence, check_loaded as loaded_checked, access_of};
+ghost use Rattle.tpm_model.specs.Authorization.{allows_auth as auth_allowed, allows_policy as policy_allowed};
 ghost use Rattle.tpm_model.specs.Authorization.{check_session as session_checked, check_auth as auth_checked};
-ghost use Rattle.tpm_model.specs.Authorization.{check_policy_allowed as allowed_checked, has_policy};
+ghost use Rattle.tpm_model.specs.Authorization.{check_policy_allowed as allowed_checked, has_policy as policy_held};
 ghost use Rattle.tpm_model.specs.Authorization.{check_policy as policy_checked, check_entity as entity_checked};
 ghost use Rattle.tpm_model.specs.Authorization.{reply_auths};
-ghost use Rattle.tpm_session.specs.Entities.{entity_in, authorizer_in, found, no_reply, IsAuthority};
-ghost use Rattle.tpm_session.specs.Entities.{Claim, evidence_of, authorized, with_session};
+ghost use Rattle.tpm_session.specs.Entities.{entity_in, no_reply as no_reply_of, IsAuthority, Claim as ClaimOf};
+ghost use Rattle.tpm_session.specs.Entities.{evidence_of, authorized, with_session};
+ghost use Rattle.tpm_session.specs.inner.Signing.{authorizer_in};
 
-use crate::access::Access;
 use crate::entity::Entity;
-use crate::evidence::{check_evidence, no_reply, password_reply};
+use crate::evidence::{Signed, check_evidence, no_reply, password_reply};
 use crate::policy::differs;
 use crate::session::{NONCE_BYTES, Session};
 use crate::sessions::{Sessions, slot_of};
+use std::marker::Model;
 use tpm_buffer::AuthRef;
 use tpm_hmac::same;
-use tpm_types::{AuthReply, CommandCode, Name, RS_PW, SessionHandle, SessionType};
+use tpm_types::{AuthReply, CommandCode, Name, NvAttrs, RS_PW, SessionHandle, SessionType};
 use tpm_wire::response_code::{
     ATTRIBUTES, AUTH_UNAVAILABLE, NONCE, PCR_CHANGED, POLICY_CC, POLICY_FAIL, REFERENCE_S0,
     of_session,
@@ -36,30 +39,52 @@ pub enum Authority {
     Slot(usize),
 }
 
-/// The same, with the session as it is now.
-#[derive(Clone, Copy)]
-pub(crate) enum Authorizer<'a> {
-    Password,
-    Loaded(&'a Session),
+/// A command by what its authorization is judged, beside its sessions.
+#[derive(Drop)]
+pub struct Claim<'a> {
+    /// What its first handle names.
+    pub entity: Entity<'a>,
+    /// Its code.
+    pub command: CommandCode,
+    /// The Names of its handles, in their order.
+    pub names: &'a [Name],
+    /// Its parameters, as they came.
+    pub params: &'a [u8],
+    /// The present update counter of the registers.
+    pub update_counter: u32,
+}
+
+impl<'a> Model for Claim<'a> {
+    ghost use Rattle.tpm_session.specs.Entities as specs;
+
+    ghost Value = { specs.Claim };
+
+    ghost view = { λ c. record {
+      entity = specs.entity_in c.entity;
+      command = c.command;
+      names = c.names.now;
+      params = c.params.now;
+      update_counter = c.update_counter;
+    } };
 }
 
 // ATTRIBUTES for audit or encryption, and for a trial session; NONCE for a password with a nonce;
 // ATTRIBUTES of the second session, where there are so many sessions.
-fn check_session(by: &Authorizer<'_>, auth: &AuthRef<'_>, count: usize) -> Result<(), u32>
+fn check_session(by: Option<&Session>, auth: &AuthRef<'_>, count: usize) -> Result<(), u32>
     ensures { (others : List Auth) →
         count ≡ suc (length others) →
-        result ≡ session_checked (authorizer_in by.now) auth.now others }
+        result ≡ session_checked (authorizer_in (option_map (λ s. s.now) by.entry)) auth.now others }
 {
     if auth.attrs().audits_or_encrypts() {
         return Err(ATTRIBUTES + of_session(1));
     }
     match by {
-        Authorizer::Password => {
+        None => {
             if !auth.nonce().is_empty() {
                 return Err(NONCE + of_session(1));
             }
         }
-        Authorizer::Loaded(session) => {
+        Some(session) => {
             if session.session_type == SessionType::Trial {
                 return Err(ATTRIBUTES + of_session(1));
             }
@@ -71,14 +96,34 @@ fn check_session(by: &Authorizer<'_>, auth: &AuthRef<'_>, count: usize) -> Resul
     Ok(())
 }
 
+// Whether an index lets its authorization value be used for the command: AUTHWRITE and AUTHREAD.
+fn allows_auth(attrs: NvAttrs, command: CommandCode) -> bool
+    ensures { result ≡ auth_allowed (access_of command) attrs }
+{
+    match command {
+        CommandCode::NvIncrement => attrs.auth_writes(),
+        CommandCode::NvRead => attrs.auth_reads(),
+        _ => true,
+    }
+}
+
+// Whether it lets its policy be used: POLICYWRITE and POLICYREAD.
+fn allows_policy(attrs: NvAttrs, command: CommandCode) -> bool
+    ensures { result ≡ policy_allowed (access_of command) attrs }
+{
+    match command {
+        CommandCode::NvIncrement => attrs.policy_writes(),
+        CommandCode::NvRead => attrs.policy_reads(),
+        _ => true,
+    }
+}
+
 // AUTH_UNAVAILABLE for an index whose authorization value does not serve for the command.
 fn check_auth(entity: &Entity<'_>, command: CommandCode) -> Result<(), u32>
     ensures { result ≡ auth_checked (entity_in entity.now) command }
 {
     match entity {
-        Entity::Index(index) if !Access::of(command).allows_auth(index.attrs()) => Err(
-            AUTH_UNAVAILABLE,
-        ),
+        Entity::Index(index) if !allows_auth(index.attrs(), command) => Err(AUTH_UNAVAILABLE),
         Entity::Register | Entity::Null | Entity::Owner(_) | Entity::Index(_) => Ok(()),
     }
 }
@@ -88,7 +133,7 @@ fn check_policy_allowed(entity: &Entity<'_>, command: CommandCode) -> Result<(),
     ensures { result ≡ allowed_checked (entity_in entity.now) command }
 {
     match entity {
-        Entity::Index(index) if Access::of(command).allows_policy(index.attrs()) => Ok(()),
+        Entity::Index(index) if allows_policy(index.attrs(), command) => Ok(()),
         Entity::Register | Entity::Null | Entity::Owner(_) | Entity::Index(_) => {
             Err(AUTH_UNAVAILABLE)
         }
@@ -98,7 +143,7 @@ fn check_policy_allowed(entity: &Entity<'_>, command: CommandCode) -> Result<(),
 impl Session {
     // Whether it has the policy of the index, in its hash.
     fn has_policy(&self, entity: &Entity<'_>) -> bool
-        ensures { result ≡ has_policy (entity_in entity.now) self.now }
+        ensures { result ≡ policy_held (entity_in entity.now) self.now }
     {
         match entity {
             Entity::Index(index) => {
@@ -110,22 +155,18 @@ impl Session {
 
     // AUTH_UNAVAILABLE; PCR_CHANGED where registers changed since TPM2_PolicyPCR; POLICY_FAIL where
     // the policy is not that of the index; POLICY_CC where it is for another command.
-    fn check_policy(
-        &self,
-        entity: &Entity<'_>,
-        command: CommandCode,
-        counter: u32,
-    ) -> Result<(), u32>
-        ensures { result ≡ policy_checked (entity_in entity.now) command counter self.now }
+    fn check_policy(&self, claim: &Claim<'_>) -> Result<(), u32>
+        ensures { result ≡
+            policy_checked claim.now.entity claim.now.command claim.now.update_counter self.now }
     {
-        check_policy_allowed(entity, command)?;
-        if differs(self.policy.update_counter, counter) {
+        check_policy_allowed(&claim.entity, claim.command)?;
+        if differs(self.policy.update_counter, claim.update_counter) {
             return Err(PCR_CHANGED);
         }
-        if !self.has_policy(entity) {
+        if !self.has_policy(&claim.entity) {
             return Err(POLICY_FAIL + of_session(1));
         }
-        if differs(self.policy.code, command.number()) {
+        if differs(self.policy.code, claim.command.number()) {
             return Err(POLICY_CC + of_session(1));
         }
         Ok(())
@@ -133,22 +174,16 @@ impl Session {
 }
 
 // Whether the entity lets itself be used so, and a policy is met.
-fn check_entity(
-    by: &Authorizer<'_>,
-    entity: &Entity<'_>,
-    command: CommandCode,
-    counter: u32,
-) -> Result<(), u32>
+fn check_entity(by: Option<&Session>, claim: &Claim<'_>) -> Result<(), u32>
     ensures { result ≡
-        entity_checked (authorizer_in by.now) (entity_in entity.now) command counter }
+        entity_checked (authorizer_in (option_map (λ s. s.now) by.entry)) claim.now.entity
+        claim.now.command claim.now.update_counter }
 {
     match by {
-        Authorizer::Password => check_auth(entity, command),
-        Authorizer::Loaded(session) => match session.session_type {
-            SessionType::Hmac => check_auth(entity, command),
-            SessionType::Policy | SessionType::Trial => session.check_policy(
-                entity, command, counter,
-            ),
+        None => check_auth(&claim.entity, claim.command),
+        Some(session) => match session.session_type {
+            SessionType::Hmac => check_auth(&claim.entity, claim.command),
+            SessionType::Policy | SessionType::Trial => session.check_policy(claim),
         },
     }
 }
@@ -174,22 +209,24 @@ impl Sessions {
         }
     }
 
-    // The authority with its session, or REFERENCE_S0 where there is none any more.
-    fn authorizer(&self, by: Authority) -> Result<Authorizer<'_>, u32>
-        ensures { found result ≡ with_session self.now by }
+    // The authority's session, none for a password; or REFERENCE_S0 where there is none any more in its slot.
+    fn session_of(&self, by: Authority) -> Result<Option<&Session>, u32>
+        ensures { MatchResult result
+            (λ session. with_session self.now by
+            ≡ Ok (authorizer_in (option_map (λ s. s.now) session)))
+            (λ code. with_session self.now by ≡ Err code) }
     {
         match by {
-            Authority::Password => Ok(Authorizer::Password),
+            Authority::Password => Ok(None),
             Authority::Slot(slot) => match self.in_slot(slot) {
-                Some(session) => Ok(Authorizer::Loaded(session)),
+                Some(session) => Ok(Some(session)),
                 None => Err(REFERENCE_S0),
             },
         }
     }
 
-    /// Whether a command of this entity is authorized by these sessions, one at least: the first
-    /// authorizes it, by a password or by an HMAC over the command's Names and its parameters as
-    /// they came. `counter` is the present update counter of the registers.
+    /// Whether a command is authorized by these sessions, one at least: the first authorizes it, by a password or by
+    /// an HMAC over the command's Names and its parameters as they came.
     ///
     /// Else the code of the first check that fails, in this order: REFERENCE_S0 for a session that
     /// is not loaded. ATTRIBUTES of session 1 for audit or encryption, and for a trial session;
@@ -200,37 +237,13 @@ impl Sessions {
     /// set. AUTH_FAIL of session 1 where the password or the HMAC is wrong and the entity is an
     /// index without NO_DA, else BAD_AUTH of session 1 (Part 1, "Authorizations and
     /// Acknowledgments"; the order is this profile's).
-    pub fn authorize(
-        &self,
-        auths: &[AuthRef<'_>],
-        entity: &Entity<'_>,
-        command: CommandCode,
-        names: &[Name],
-        params: &[u8],
-        counter: u32,
-    ) -> Result<(), u32>
+    pub fn authorize(&self, auths: &[AuthRef<'_>], claim: &Claim<'_>) -> Result<(), u32>
         requires { 0 < length auths.now }
-        ensures { result ≡ authorized self.now (record {
-          entity = entity_in entity.now;
-          command = command;
-          names = names.now;
-          params = params.now;
-          update_counter = counter;
-          auths = auths.now;
-        }) }
+        ensures { result ≡ authorized self.now claim.now auths.now }
     {
         let first = &auths[0];
         let by = self.authority(first)?;
-        self.authorize_by(
-            by,
-            first,
-            auths.len(),
-            entity,
-            command,
-            names,
-            params,
-            counter,
-        )
+        self.authorize_by(by, first, auths.len(), claim)
     }
 
     /// As `authorize`, where this is who the first of so many sessions names: of the others it
@@ -240,28 +253,17 @@ impl Sessions {
         by: Authority,
         auth: &AuthRef<'_>,
         count: usize,
-        entity: &Entity<'_>,
-        command: CommandCode,
-        names: &[Name],
-        params: &[u8],
-        counter: u32,
+        claim: &Claim<'_>,
     ) -> Result<(), u32>
         ensures { (others : List Auth) →
             IsAuthority self.now auth.now.session by →
             count ≡ suc (length others) →
-            result ≡ authorized self.now (record {
-              entity = entity_in entity.now;
-              command = command;
-              names = names.now;
-              params = params.now;
-              update_counter = counter;
-              auths = auth.now ∷ others;
-            }) }
+            result ≡ authorized self.now claim.now (auth.now ∷ others) }
     {
-        let by = self.authorizer(by)?;
-        check_session(&by, auth, count)?;
-        check_entity(&by, entity, command, counter)?;
-        check_evidence(&by, self.hashed(), auth, entity, command, names, params)
+        let by = self.session_of(by)?;
+        check_session(by, auth, count)?;
+        check_entity(by, claim)?;
+        check_evidence(by, self.hashed(), auth, claim)
     }
 
     /// The session of the reply to a command that this authorized, before it rolls: a password is
@@ -270,30 +272,35 @@ impl Sessions {
     /// The entity is that of the command, or as it is after the command with the same authorization
     /// value (Part 1, "HMAC Computation"). Of a slot without a session it is empty: no nonce, no
     /// attributes and no HMAC.
-    pub fn reply_auth(
-        &self,
+    pub fn reply_auth<'a>(
+        &'a self,
         by: Authority,
-        auth: &AuthRef<'_>,
-        entity: &Entity<'_>,
+        auth: &'a AuthRef<'a>,
+        entity: &'a Entity<'a>,
         command: CommandCode,
         params: &[u8],
         nonce: &[u8; NONCE_BYTES],
     ) -> AuthReply
-        ensures answer { (claim : Claim) (others : List Auth) (x : Evidence) →
+        ensures answer { (claim : ClaimOf) (others : List Auth) (x : Evidence) →
             IsAuthority self.now auth.now.session by →
-            claim.auths ≡ auth.now ∷ others →
             claim.command ≡ command →
             auth_value claim.entity ≡ auth_value (entity_in entity.now) →
             is_owner_entity claim.entity ≡ is_owner_entity (entity_in entity.now) →
-            evidence_of self.now claim ≡ Ok x →
+            evidence_of self.now claim (auth.now ∷ others) ≡ Ok x →
             reply_auths x command params.now nonce.now ≡ result ∷ [] }
-        ensures unloaded { IsErr (with_session self.now by) → result ≡ no_reply }
+        ensures unloaded { IsErr (with_session self.now by) → result ≡ no_reply_of }
     {
-        match self.authorizer(by) {
-            Ok(Authorizer::Loaded(session)) => {
-                session.reply(self.hashed(), auth, entity, command, params, nonce)
+        match self.session_of(by) {
+            Ok(Some(session)) => {
+                let signed = Signed {
+                    session,
+                    hashed: self.hashed(),
+                    entity,
+                    auth,
+                };
+                signed.reply(command, params, nonce)
             }
-            Ok(Authorizer::Password) => password_reply(),
+            Ok(None) => password_reply(),
             Err(_) => no_reply(),
         }
     }

@@ -1,24 +1,23 @@
 //! The evidence that a command is authorized, a password or an HMAC, and the session of its reply
 //! (Part 1, "HMAC Computation" and "Password Authorizations").
 
-ghost use Rattle.std.specs.Prelude.{◌≡◌, ℕ, List, [], ◌∷◌, ◌&&◌, bytes_eq};
+ghost use Rattle.std.specs.Prelude.{◌≡◌, ◌&&◌, ℕ, List, [], ◌∷◌, bytes_eq, option_map};
 ghost use Rattle.tpm_types.specs.CommandCodes.{code_number};
 ghost use Rattle.tpm_hmac.specs.Hmac.{hmac};
-ghost use Rattle.tpm_hmac.specs.Sessions.{whole_key, mac_text, cp_hash as cp_hash_of};
-ghost use Rattle.tpm_model.specs.Authorization.{follows, key_for, is_empty, command_text, is_signed as is_signed_of};
+ghost use Rattle.tpm_hmac.specs.Sessions.{mac_text, cp_hash as cp_hash_of};
+ghost use Rattle.tpm_model.specs.Authorization.{follows, is_empty, key_for, needs_none, is_signed};
 ghost use Rattle.tpm_model.specs.Authorization.{failure as failure_of, Evidence, evidence_by};
 ghost use Rattle.tpm_model.specs.Authorization.{check_evidence as evidence_checked, nonce_next, reply_auths};
-ghost use Rattle.tpm_model.specs.Authorization.{password_reply as password_reply_of};
-ghost use Rattle.tpm_session.specs.Entities.{entity_in, authorizer_in, signed_by, reply_hmac, no_reply as no_reply_of};
+ghost use Rattle.tpm_model.specs.Authorization.{password_reply as password_reply_of, command_text};
+ghost use Rattle.tpm_session.specs.Entities.{entity_in, no_reply as no_reply_of};
+ghost use Rattle.tpm_session.specs.inner.Signing.{authorizer_in, signed_in, reply_hmac};
 
-use crate::authorize::Authorizer;
+use crate::authorize::Claim;
 use crate::entity::Entity;
 use crate::session::{NONCE_BYTES, Session};
 use tpm_buffer::AuthRef;
 use tpm_hmac::{SessionKey, command_mac, cp_hash, rp_hash, same, trim};
-use tpm_types::{
-    AuthReply, AuthValue, CommandCode, Digest, Name, Nonce, SessionAttrs, SessionType,
-};
+use tpm_types::{AuthReply, AuthValue, CommandCode, Digest, Nonce, SessionAttrs, SessionType};
 use tpm_wire::response_code::{AUTH_FAIL, BAD_AUTH, of_session};
 
 impl Session {
@@ -48,90 +47,6 @@ impl Session {
         self.key.as_slice().is_empty() && self.follows(entity).is_empty()
     }
 
-    // Whether an empty HMAC is none: the command has no other, and there is no key.
-    #[tactic(auto, using(crate::proofs::Keys::empty_key))]
-    fn needs_none(&self, entity: &Entity<'_>, auth: &AuthRef<'_>) -> bool
-        ensures { result ≡
-            (is_empty (key_for self.now (entity_in entity.now)) && is_empty auth.now.hmac) }
-    {
-        self.has_no_key(entity) && auth.hmac().is_empty()
-    }
-
-    // The MAC of a command or of a response under the session key and what follows it, by the key that was hashed where
-    // that is the session's and nothing follows it (Part 1, "HMAC Computation").
-    #[inline(never)]
-    fn mac(
-        &self,
-        hashed: &SessionKey,
-        follows: &[u8],
-        p_hash: &[u8],
-        newer: &[u8],
-        older: &[u8],
-        attrs: SessionAttrs,
-    ) -> Digest
-        ensures { result ≡
-            hmac self.now.hash (whole_key self.now.key follows.now)
-            (mac_text p_hash.now newer.now older.now attrs) }
-    {
-        if follows.is_empty() && hashed.is_of(self.hash, self.key.as_slice()) {
-            return hashed.session_mac(follows, p_hash, newer, older, attrs);
-        }
-        command_mac(
-            self.hash,
-            self.key.as_slice(),
-            follows,
-            p_hash,
-            newer,
-            older,
-            attrs,
-        )
-    }
-
-    // Whether the command has this HMAC of the session, whole: that of its code, Names and
-    // parameters, under the session key and what follows it.
-    fn has_mac(
-        &self,
-        hashed: &SessionKey,
-        auth: &AuthRef<'_>,
-        entity: &Entity<'_>,
-        command: CommandCode,
-        names: &[Name],
-        params: &[u8],
-    ) -> bool
-        ensures { result ≡
-            bytes_eq auth.now.hmac (hmac self.now.hash (key_for self.now (entity_in entity.now))
-            (command_text (signed_by self.now (entity_in entity.now)
-            (cp_hash_of self.now.hash (code_number command) names.now params.now) auth.now))) }
-    {
-        let p_hash = cp_hash(self.hash(), command, names, params);
-        let mac = self.mac(
-            hashed,
-            self.follows(entity),
-            p_hash.as_slice(),
-            auth.nonce(),
-            self.nonce.as_slice(),
-            auth.attrs(),
-        );
-        same(auth.hmac(), mac.as_slice())
-    }
-
-    // Whether the command is authorized by the session's HMAC, or needs none.
-    fn is_signed(
-        &self,
-        hashed: &SessionKey,
-        auth: &AuthRef<'_>,
-        entity: &Entity<'_>,
-        command: CommandCode,
-        names: &[Name],
-        params: &[u8],
-    ) -> bool
-        ensures { result ≡
-            is_signed_of (signed_by self.now (entity_in entity.now)
-            (cp_hash_of self.now.hash (code_number command) names.now params.now) auth.now) }
-    {
-        self.needs_none(entity, auth) || self.has_mac(hashed, auth, entity, command, names, params)
-    }
-
     // Its next nonce: the first of these bytes.
     fn next_nonce(&self, nonce: &[u8; NONCE_BYTES]) -> Nonce
         ensures { result ≡ nonce_next self.now nonce.now }
@@ -142,53 +57,107 @@ impl Session {
             None => unreachable!(),
         }
     }
+}
 
-    // The HMAC of a reply that has this nonce, or none.
-    fn reply_mac(
-        &self,
-        hashed: &SessionKey,
-        auth: &AuthRef<'_>,
-        entity: &Entity<'_>,
-        command: CommandCode,
-        params: &[u8],
-        nonce: &[u8],
-    ) -> AuthValue
-        ensures { result ≡
-            reply_hmac self.now (entity_in entity.now) auth.now command params.now nonce.now }
+/// What the HMACs of a session are made of, for a command of this entity and for its reply.
+#[derive(Clone, Copy)]
+pub(crate) struct Signed<'a> {
+    pub session: &'a Session,
+    // A key that is hashed, which may be any.
+    pub hashed: &'a SessionKey,
+    pub entity: &'a Entity<'a>,
+    // What the command has of the session.
+    pub auth: &'a AuthRef<'a>,
+}
+
+impl Signed<'_> {
+    // Whether an empty HMAC is none: the command has no other, and there is no key.
+    #[tactic(auto, using(crate::proofs::Keys::empty_key))]
+    fn needs_none(&self) -> bool
+        ensures { result ≡ needs_none (signed_in self.now []) }
     {
-        if self.needs_none(entity, auth) {
-            return AuthValue::default();
-        }
-        let p_hash = rp_hash(self.hash(), command, params);
-        self.mac(
-            hashed,
-            self.follows(entity),
-            p_hash.as_slice(),
-            nonce,
-            auth.nonce(),
-            auth.attrs(),
-        )
+        self.session.has_no_key(self.entity) && self.auth.hmac().is_empty()
     }
 
-    // Its part of the reply to the command that it authorized.
+    // The MAC of a command or of a response under the session key and what follows it, by the key that was hashed where
+    // that is the session's and nothing follows it (Part 1, "HMAC Computation").
+    #[inline(never)]
+    fn mac(&self, p_hash: &[u8], newer: &[u8], older: &[u8]) -> Digest
+        ensures { result ≡
+            hmac self.now.session.now.hash
+            (key_for self.now.session.now (entity_in self.now.entity.now))
+            (mac_text p_hash.now newer.now older.now self.now.auth.now.attrs) }
+    {
+        let session = self.session;
+        let key = session.key.as_slice();
+        let follows = session.follows(self.entity);
+        let attrs = self.auth.attrs();
+        if follows.is_empty() && self.hashed.is_of(session.hash, key) {
+            return self
+                .hashed
+                .session_mac(follows, p_hash, newer, older, attrs);
+        }
+        command_mac(session.hash, key, follows, p_hash, newer, older, attrs)
+    }
+
+    // Whether the command has this HMAC of the session, whole: that of its code, Names and
+    // parameters, under the session key and what follows it.
+    fn has_mac(&self, claim: &Claim<'_>) -> bool
+        ensures { result ≡
+            bytes_eq self.now.auth.now.hmac (hmac self.now.session.now.hash
+            (key_for self.now.session.now (entity_in self.now.entity.now))
+            (command_text (signed_in self.now
+            (cp_hash_of self.now.session.now.hash (code_number claim.now.command) claim.now.names
+            claim.now.params)))) }
+    {
+        let session = self.session;
+        let p_hash = cp_hash(session.hash, claim.command, claim.names, claim.params);
+        let mac = self.mac(
+            p_hash.as_slice(),
+            self.auth.nonce(),
+            session.nonce.as_slice(),
+        );
+        same(self.auth.hmac(), mac.as_slice())
+    }
+
+    // Whether the command is authorized by the session's HMAC, or needs none.
+    fn is_right(&self, claim: &Claim<'_>) -> bool
+        ensures { result ≡
+            is_signed (signed_in self.now
+            (cp_hash_of self.now.session.now.hash (code_number claim.now.command) claim.now.names
+            claim.now.params)) }
+    {
+        self.needs_none() || self.has_mac(claim)
+    }
+
+    // The HMAC of a reply that has this nonce, or none.
+    fn reply_mac(&self, command: CommandCode, params: &[u8], nonce: &[u8]) -> AuthValue
+        ensures { result ≡ reply_hmac (signed_in self.now []) command params.now nonce.now }
+    {
+        if self.needs_none() {
+            return AuthValue::default();
+        }
+        let session = self.session;
+        let p_hash = rp_hash(session.hash, command, params);
+        self.mac(p_hash.as_slice(), nonce, self.auth.nonce())
+    }
+
+    /// The session's part of the reply to the command that it authorized.
     pub(crate) fn reply(
         &self,
-        hashed: &SessionKey,
-        auth: &AuthRef<'_>,
-        entity: &Entity<'_>,
         command: CommandCode,
         params: &[u8],
         nonce: &[u8; NONCE_BYTES],
     ) -> AuthReply
         ensures { (p_hash : List ℕ) →
-            reply_auths (Evidence.ByMac (signed_by self.now (entity_in entity.now) p_hash auth.now))
-            command params.now nonce.now ≡ result ∷ [] }
+            reply_auths (Evidence.ByMac (signed_in self.now p_hash)) command params.now nonce.now
+            ≡ result ∷ [] }
     {
-        let nonce = self.next_nonce(nonce);
-        let hmac = self.reply_mac(hashed, auth, entity, command, params, nonce.as_slice());
+        let nonce = self.session.next_nonce(nonce);
+        let hmac = self.reply_mac(command, params, nonce.as_slice());
         AuthReply {
             nonce,
-            attrs: auth.attrs(),
+            attrs: self.auth.attrs(),
             hmac,
         }
     }
@@ -231,25 +200,29 @@ fn failure(entity: &Entity<'_>) -> u32
     }
 }
 
-/// AUTH_FAIL or BAD_AUTH unless the command has the password, or the session's HMAC.
-pub(crate) fn check_evidence(
-    by: &Authorizer<'_>,
-    hashed: &SessionKey,
-    auth: &AuthRef<'_>,
-    entity: &Entity<'_>,
-    command: CommandCode,
-    names: &[Name],
-    params: &[u8],
+/// AUTH_FAIL or BAD_AUTH unless the command has the password, or the HMAC of this session.
+pub(crate) fn check_evidence<'a>(
+    by: Option<&'a Session>,
+    hashed: &'a SessionKey,
+    auth: &'a AuthRef<'a>,
+    claim: &'a Claim<'a>,
 ) -> Result<(), u32>
     ensures { result ≡
-        evidence_checked (entity_in entity.now)
-        (evidence_by (authorizer_in by.now) (entity_in entity.now) command names.now params.now
-        auth.now) }
+        evidence_checked claim.now.entity
+        (evidence_by (authorizer_in (option_map (λ s. s.now) by.entry)) claim.now.entity claim.now.command
+        claim.now.names claim.now.params auth.now) }
 {
+    let entity = &claim.entity;
     let is_right = match by {
-        Authorizer::Password => same(trim(auth.hmac()), entity.auth_value()),
-        Authorizer::Loaded(session) => {
-            session.is_signed(hashed, auth, entity, command, names, params)
+        None => same(trim(auth.hmac()), entity.auth_value()),
+        Some(session) => {
+            let signed = Signed {
+                session,
+                hashed,
+                entity,
+                auth,
+            };
+            signed.is_right(claim)
         }
     };
     if is_right {

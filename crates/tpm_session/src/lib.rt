@@ -1,7 +1,6 @@
 //! The sessions that a device holds (Part 1, "Session-Based Authorizations").
 #![tactic(auto)]
 
-mod access;
 mod authorize;
 mod entity;
 mod evidence;
@@ -9,7 +8,7 @@ mod policy;
 mod session;
 mod sessions;
 
-pub use authorize::Authority;
+pub use authorize::{Authority, Claim};
 pub use entity::Entity;
 pub use evidence::password_reply;
 pub use policy::{Assertion, empty_policy, extend_policy};

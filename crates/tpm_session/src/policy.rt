@@ -8,7 +8,8 @@ ghost use Rattle.tpm_model.specs.Policies.Assertion.{PcrAsserted, OrAsserted};
 ghost use Rattle.tpm_model.specs.Policies.{asserted, policy_of, policy_digest};
 ghost use Rattle.tpm_model.specs.Actions.{is_listed as listed};
 ghost use Rattle.tpm_model.specs.Authorization.{differs as is_another};
-ghost use Rattle.tpm_session.specs.Policies.{as_assertion, policy_after};
+ghost use Rattle.tpm_session.specs.Policies.{as_assertion};
+ghost use Rattle.tpm_session.specs.inner.Asserting.{policy_after};
 
 use arrayvec::ArrayVec;
 use std::marker::Model;

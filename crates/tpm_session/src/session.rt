@@ -9,8 +9,8 @@ ghost use Rattle.tpm_pcr.specs.Registers.{Registers, value_in, composite as comp
 ghost use Rattle.tpm_model.specs.Sessions.{is_handle_of, is_trial as is_trial_type, pcr_assertion, nonce_from};
 ghost use Rattle.tpm_model.specs.Sessions.{as_session};
 ghost use Rattle.tpm_model.specs.Actions.{check_policy_pcr, check_policy_or, check_policy_code};
-ghost use Rattle.tpm_session.specs.Answers.{rolled};
-ghost use Rattle.tpm_session.specs.Policies.{as_assertion, asserting, restarted};
+ghost use Rattle.tpm_session.specs.Policies.{as_assertion};
+ghost use Rattle.tpm_session.specs.inner.Asserting.{rolled, asserting, restarted};
 
 use crate::policy::{Assertion, Policy, differs, is_listed};
 use std::marker::Model;

@@ -20,9 +20,10 @@ ghost use Rattle.tpm_model.specs.Sessions as model;
 ghost use Rattle.tpm_types.specs.declared.tpms.Auth.{Auth};
 ghost use Rattle.tpm_types.specs.Tpma.{continues};
 ghost use Rattle.tpm_types.specs.declared.handle_sets.BindHandle.TheVariants as binds;
-ghost use Rattle.tpm_session.specs.Answers.{started_reply, after_command};
+ghost use Rattle.tpm_session.specs.Answers.{started_reply};
 ghost use Rattle.tpm_session.specs.Entities.{IsAuthority};
-ghost use Rattle.tpm_session.specs.Policies.{for_policy, as_assertion, asserting, restarted, with_slot};
+ghost use Rattle.tpm_session.specs.Policies.{for_policy, as_assertion};
+ghost use Rattle.tpm_session.specs.inner.Asserting.{after_command, asserting, restarted, with_slot};
 
 use crate::authorize::Authority;
 use crate::policy::Assertion;

@@ -1,16 +1,21 @@
 -- What went over a port, told one after the other.
-use Rattle.std.proofs.Common.{◌≡◌, ℕ, ◌+◌, ◌≤◌, List, [], ◌∷◌, ◌++◌, refl, sym, ap, ◌∙◌, arith, append_assoc, length-append}
+use Rattle.std.proofs.Common.{◌≡◌, ℕ, ◌+◌, ◌≤◌, ◌==◌, true, false, List, [], ◌∷◌, ◌++◌, length, refl, sym, ap, ◌∙◌, arith, append_assoc}
+use Rattle.std.proofs.Common.{length-append}
+use Rattle.std.proofs.lemmas.Bool.{eqb-true}
 use Rattle.std.proofs.lemmas.List.{append-nil}
 use Rattle.tpm_pcap.specs.Entries.{Entry, Connection, Untold}
 use Rattle.tpm_pcap.specs.Entries as went
-use Rattle.tpm_output.specs.declared.status.Status.TheVariants.{Done}
+use Rattle.tpm_pcap.specs.Files.{Entries}
+use Rattle.tpm_output.specs.declared.status.Status.TheVariants.{Done, Refused}
 use Rattle.tpm_output.specs.declared.status.Status.{Status}
 use Rattle.tpm_output.specs.Status.{both}
 use Rattle.tpm_output.proofs.Joins.{Joins}
 use Rattle.tpm_show.specs.declared.capture.Capture.{Capture}
-use Rattle.tpm_show.specs.Capture.{CapturePlace}
+use Rattle.tpm_show.specs.declared.telling.Telling.{Telling}
+use Rattle.tpm_show.specs.Capture.{CapturePlace, start}
 use Rattle.tpm_show.specs.Capturing.{place}
-use Rattle.tpm_show.specs.Packets.{behind_entry, TellsEntry, TellsEntries}
+use Rattle.tpm_show.specs.Packets.{behind_entry, TellsEntry, TellsEntries, TellsTraffic}
+use Rattle.tpm_show.specs.Reports.{IsReport, no_packet_report}
 use Rattle.tpm_show.specs.PacketsTold.{behind_entries, TellsOne, TellsMany}
 use Rattle.tpm_show.proofs.Captures.{both_assoc, both_done}
 
@@ -38,9 +43,16 @@ tells_one p e s a f = (s, a, Done, [], f, (refl, refl), sym (both_done s), sym (
 -- A frame alone has a number.
 at_most : (p : CapturePlace) (e : Entry) → (behind_entry p e).number ≤ p.number + 1
 at_most p Connection = omega arith
-at_most p (went.Command bytes) = omega arith
-at_most p (went.Reply bytes) = omega arith
+at_most p (went.Command stamp bytes) = omega arith
+at_most p (went.Reply stamp bytes) = omega arith
 at_most p (Untold packet reason) = omega arith
+
+-- Nothing begins more than one connection.
+connections_at_most : (p : CapturePlace) (e : Entry) → (behind_entry p e).passage.connection ≤ p.passage.connection + 1
+connections_at_most p Connection = omega arith
+connections_at_most p (went.Command stamp bytes) = omega arith
+connections_at_most p (went.Reply stamp bytes) = omega arith
+connections_at_most p (Untold packet reason) = omega arith
 
 pub many_none : (c : Capture) (A : List ℕ → Type 0) → A [] → TellsMany [] c c A
 many_none c A none = record {
@@ -51,6 +63,7 @@ many_none c A none = record {
   place = refl;
   all = sym (both_done c.status);
   number = omega arith;
+  connection = omega arith;
 }
 
 pub many_more : (xs : List Entry) (e : Entry) (c d n : Capture) (A B C : List ℕ → Type 0) → Joins A B C → TellsMany xs c d A → TellsOne e d n B
@@ -64,4 +77,22 @@ many_more xs e c d n A B C joins f g = record {
   place = g.place ∙ ap (λ (p : CapturePlace). behind_entry p e) f.place ∙ sym (behind-append (place c) xs (e ∷ []));
   all = g.all ∙ ap (λ (s : Status). both s g.status) f.all ∙ both_assoc c.status f.status g.status;
   number = omega (arith, f.number, ap (λ (p : CapturePlace). p.number) g.place, at_most (place d) e, length-append xs (e ∷ []));
+  connection = omega (
+    arith,
+    f.connection,
+    ap (λ (p : CapturePlace). p.passage.connection) g.place,
+    connections_at_most (place d) e,
+    length-append xs (e ∷ []),
+  );
 }
+
+-- Where nothing went over the port that is told, and else all of it.
+pub none_told : (how : Telling) (port : ℕ) (entries : List Entry) (text : List ℕ) → (length entries == 0) ≡ true
+    → IsReport how.json (no_packet_report port) text → TellsTraffic how port (Entries entries) Refused text
+none_told how port [] text none f = (refl, f)
+none_told how port (x ∷ xs) text none f = absurd (omega (arith, eqb-true (length (x ∷ xs)) 0 none))
+
+pub some_told : (how : Telling) (port : ℕ) (entries : List Entry) (status : Status) (text : List ℕ) → (length entries == 0) ≡ false
+    → TellsEntries (start how) entries status text → TellsTraffic how port (Entries entries) status text
+some_told how port [] status text some f = let none : ⊥ = cc (some) in absurd none
+some_told how port (x ∷ xs) status text some f = f

@@ -1,16 +1,9 @@
 -- What `show` prints of a capture: frames of both directions, each in a line (this profile).
-use Rattle.std.specs.Prelude.{◌≡◌, ◌<◌, ℕ, ◌+◌, ◌==◌, ◌||◌, nat_lt, Bool, false, List, [], ◌∷◌, ◌++◌, length}
-use Rattle.std.specs.Prelude.{map, codes, Option, Some, None, option_map, if◌then◌else◌}
+use Rattle.std.specs.Prelude.{◌≡◌, ◌<◌, ℕ, ◌+◌, ◌==◌, ◌||◌, ◌&&◌, nat_lt, not, Bool, false, List, [], ◌∷◌, ◌++◌, length}
+use Rattle.std.specs.Prelude.{map, codes, Option, Some, None, option_map, is_some, if◌then◌else◌}
 use Rattle.std.specs.Io.KnownBytes.{Consumes, IsAtEnd}
-use Rattle.tpm_wire.specs.declared.refusal.Refusal.{Refusal}
-use Rattle.tpm_wire.specs.Path.{Spells, Fault}
 use Rattle.tpm_types.specs.declared.command_code.CommandCode.{CommandCode}
-use Rattle.tpm_commands.specs.declared.command.Command.{Command as CommandOf}
-use Rattle.tpm_commands.specs.declared.response.Response.{Response}
 use Rattle.tpm_types.specs.CommandCodes.{code_number, code_of}
-use Rattle.tpm_buffer.specs.Commands.{command}
-use Rattle.tpm_buffer.specs.CommandAreas.{Cut, HasCut}
-use Rattle.tpm_buffer.specs.Responses.{ReplyCut, reply_cut, response}
 use Rattle.tpm_output.specs.declared.status.Status.TheVariants.{Done, Refused}
 use Rattle.tpm_output.specs.declared.status.Status.{Status}
 use Rattle.tpm_output.specs.Status.{both}
@@ -20,14 +13,16 @@ pub use Rattle.tpm_show.specs.Digits.{is_blank, without_blanks, without_prefix}
 use Rattle.tpm_show.specs.declared.capture_lines.Direction.TheVariants.{Command, Reply}
 use Rattle.tpm_show.specs.declared.capture_lines.Direction.{Direction}
 use Rattle.tpm_show.specs.declared.capture_frames.Awaited.{Awaited}
+use Rattle.tpm_show.specs.declared.passage.Passage.{Passage}
 use Rattle.tpm_show.specs.declared.telling.Telling.{Telling}
-use Rattle.tpm_show.specs.CommandNames.{Listed, absent_name, command_of}
+use Rattle.tpm_show.specs.CommandNames.{Listed, command_of}
 use Rattle.tpm_show.specs.declared.frame_header.FrameHeader.{FrameHeader}
 use Rattle.tpm_show.specs.Headers.{header_in}
-use Rattle.tpm_show.specs.Library.{library_command, library_response}
-use Rattle.tpm_show.specs.Pieces.{Piece, CommandHead, ReplyHead, RefusedWith, Absent, Untold}
+use Rattle.tpm_show.specs.Library.{library_response, response_areas_told}
+use Rattle.tpm_show.specs.Passages.{passage_told}
+use Rattle.tpm_show.specs.Pieces.{Piece, Untold}
+use Rattle.tpm_show.specs.Refusals.{CommandBytes, ReplyBytes, TellsBuffer, head_told, status_if}
 use Rattle.tpm_show.specs.Reports.{IsReport, fault_report, frame_report}
-use Rattle.tpm_show.specs.Show.{Buffer, CommandBytes, ReplyBytes, command_rest, response_rest}
 use Rattle.tpm_show.specs.declared.capture_frames.Awaited.TheVariants as awaits
 
 -- ---- what a line has
@@ -104,50 +99,31 @@ answered_code (awaits.Other code) = Some code
 
 -- ---- what is told of a frame
 
--- its header
-abbrev pub head_told : Direction → Awaited → Option FrameHeader → List Piece
-head_told direction awaited None = []
-head_told Command awaited (Some h) = CommandHead h ∷ []
-head_told Reply awaited (Some h) = ReplyHead (answered_code awaited) h ∷ []
+-- A response of another code than 0 is ten bytes (Part 1, "Command/Response Structure").
+abbrev pub is_code_alone : Option FrameHeader → List ℕ → Bool
+is_code_alone None bytes = false
+is_code_alone (Some h) bytes = not (h.code == 0) && (h.size == 10 && length bytes == 10)
 
-abbrev pub absent_told : Option Listed → List Piece
-absent_told None = []
-absent_told (Some c) = Absent c.name ∷ []
+-- a response to a command that the profile hasn't: it is a code alone, or the library's tables have what is behind it
+abbrev pub TellsOther : Option Listed → List ℕ → Status → List Piece → Type 0
+TellsOther None bytes status pieces =
+    (status ≡ Refused) × (pieces ≡ Untold (codes "its command is not known") ∷ [])
+TellsOther (Some c) bytes status pieces =
+    (status ≡ status_if (is_code_alone (header_in bytes) bytes
+    || is_some (library_response (Some c) bytes (header_in bytes))))
+    × (pieces ≡ response_areas_told (library_response (Some c) bytes (header_in bytes)))
 
--- Behind the refusal of a command stands which command it is, where its code alone is refused, and what is behind its
--- header by the library's tables.
-abbrev pub refused_command : Refusal → (bytes : List ℕ) → List Piece
-refused_command refusal bytes = RefusedWith refusal
-    ∷ (absent_told (absent_name refusal (code_number_in bytes)) ++ library_command bytes (header_in bytes))
-
--- A command or a response that the bytes spell is told behind its header, and else their fault.
-abbrev pub TellsBuffer : (fields : Bool) → Buffer → Status → List Piece → Type 0
-TellsBuffer fields (CommandBytes bytes) Done pieces =
-    (c : CommandOf) × (areas : Cut) × Spells command c bytes × HasCut bytes areas
-    × (pieces ≡ command_rest fields areas c.body)
-TellsBuffer fields (CommandBytes bytes) Refused pieces =
-    (refusal : Refusal) × Fault command bytes refusal × (pieces ≡ refused_command refusal bytes)
-TellsBuffer fields (ReplyBytes code bytes) Done pieces =
-    (r : Response) × (areas : ReplyCut) × Spells (response code) r bytes × Spells (reply_cut code) areas bytes
-    × (pieces ≡ response_rest fields areas r)
-TellsBuffer fields (ReplyBytes code bytes) Refused pieces =
-    (refusal : Refusal) × Fault (response code) bytes refusal × (pieces ≡ RefusedWith refusal ∷ [])
-
--- a response to a command that the profile hasn't
-abbrev pub other_reply : Option Listed → List ℕ → List Piece
-other_reply None bytes = Untold (codes "its command is not known") ∷ []
-other_reply (Some c) bytes = library_response c bytes (header_in bytes)
-
--- a frame where it stands: its bytes, which reply is awaited there, and whether its fields are told
+-- a frame where it stands: its bytes, which reply is awaited there, its place among packets, and whether its fields are
+-- told
 pub record FrameAt : Type 0 where
   pub bytes : List ℕ
   pub awaited : Awaited
+  pub passage : Passage
   pub fields : Bool
 
 abbrev pub TellsReply : Awaited → FrameAt → Status → List Piece → Type 0
 TellsReply (awaits.Reply command) f status pieces = TellsBuffer f.fields (ReplyBytes command f.bytes) status pieces
-TellsReply (awaits.Other code) f status pieces =
-    (status ≡ Refused) × (pieces ≡ other_reply (command_of code) f.bytes)
+TellsReply (awaits.Other code) f status pieces = TellsOther (command_of code) f.bytes status pieces
 TellsReply awaits.Unknown f status pieces =
     (status ≡ Refused) × (pieces ≡ Untold (codes "its command is not known") ∷ [])
 TellsReply awaits.Nothing f status pieces =
@@ -158,22 +134,26 @@ abbrev pub TellsRest : Direction → FrameAt → Status → List Piece → Type 
 TellsRest Command f status pieces = TellsBuffer f.fields (CommandBytes f.bytes) status pieces
 TellsRest Reply f status pieces = TellsReply f.awaited f status pieces
 
--- what its header says, whatever is refused, and then what stands behind the header
+-- what its header says, whatever is refused, its packet, and what stands behind the header
 abbrev pub TellsFrame : Direction → FrameAt → Status → List Piece → Type 0
 TellsFrame direction f status pieces =
     (rest : List Piece) × TellsRest direction f status rest
-    × (pieces ≡ head_told direction f.awaited (header_in f.bytes) ++ rest)
+    × (pieces ≡ head_told direction (answered_code f.awaited) (header_in f.bytes) ++ (passage_told f.passage ++ rest))
 
 -- ---- what is told of lines
 
--- how frames are told, the number of the next one, and which reply may come next
+-- how frames are told, the number of the next one, which reply may come next, and a frame's place among packets
 pub record CapturePlace : Type 0 where
   pub how : Telling
   pub number : ℕ
   pub awaited : Awaited
+  pub passage : Passage
+
+abbrev pub no_passage : Passage
+no_passage = record { connection = 0; stamp = None }
 
 abbrev pub start : Telling → CapturePlace
-start how = record { how = how; number = 1; awaited = awaits.Nothing }
+start how = record { how = how; number = 1; awaited = awaits.Nothing; passage = no_passage }
 
 abbrev pub behind : CapturePlace → Line → CapturePlace
 behind p Nothing = p
@@ -182,7 +162,8 @@ behind p (Frame mark bytes) =
 behind p _ = record p { number = p.number + 1; awaited = awaits.Unknown }
 
 abbrev pub frame_at : CapturePlace → (bytes : List ℕ) → FrameAt
-frame_at p bytes = record { bytes = bytes; awaited = p.awaited; fields = p.how.fields }
+frame_at p bytes =
+    record { bytes = bytes; awaited = p.awaited; passage = p.passage; fields = p.how.fields }
 
 abbrev pub TellsLine : CapturePlace → Line → Status → List ℕ → Type 0
 TellsLine p Nothing status text = (status ≡ Done) × (text ≡ [])

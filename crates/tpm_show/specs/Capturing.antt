@@ -9,8 +9,9 @@ use Rattle.tpm_output.specs.Status.{both}
 use Rattle.tpm_show.specs.declared.telling.Telling.{Telling}
 use Rattle.tpm_show.specs.declared.capture.Capture.{Capture}
 use Rattle.tpm_show.specs.declared.capture_frames.Awaited.{Awaited}
+use Rattle.tpm_show.specs.declared.capture_frames.FrameAt.{FrameAt as RustFrameAt}
 use Rattle.tpm_show.specs.declared.capture_lines.Line.{Line as RustLine}
-use Rattle.tpm_show.specs.Capture.{Line, CapturePlace, start, line_of, most_line, is_blank, behind}
+use Rattle.tpm_show.specs.Capture.{Line, CapturePlace, FrameAt, start, line_of, most_line, is_blank, behind}
 use Rattle.tpm_show.specs.Capture.{TellsLine, TellsFrom}
 use Rattle.tpm_show.specs.Stream.{unmarked_frame}
 use Rattle.tpm_show.specs.declared.capture_lines.Line.TheVariants as rust
@@ -24,13 +25,16 @@ read_as rust.NotHexadecimal = capture.NotHexadecimal
 read_as rust.TooLong = capture.TooLong
 
 abbrev pub place : Capture → CapturePlace
-place c = record { how = c.how; number = c.number; awaited = c.awaited }
+place c = record { how = c.how; number = c.number; awaited = c.awaited; passage = c.passage }
+
+abbrev pub frame_as : RustFrameAt → FrameAt
+frame_as f = record { bytes = f.bytes.now; awaited = f.awaited; passage = f.passage; fields = f.fields }
 
 -- ---- a line
 
 -- Behind a frame, with the status of it, the next has the next number.
 pub record Passes (old : Capture) (awaited : Awaited) (status : Status) (new : Capture) : Type 0 where
-  pub place : place new ≡ record { how = old.how; number = old.number + 1; awaited = awaited }
+  pub place : place new ≡ record (place old) { number = old.number + 1; awaited = awaited }
   pub all : new.status ≡ both old.status status
 
 -- This line was told.

@@ -1,9 +1,5 @@
 -- The commands of the library by their names (Part 2, 6.5.2, TPM_CC), and how many handles each has (Part 3).
-use Rattle.std.specs.Prelude.{ℕ, ◌==◌, ◌&&◌, List, [], ◌∷◌, ◌++◌, codes, Option, Some, None}
-use Rattle.std.specs.Prelude.{find, if◌then◌else◌}
-use Rattle.tpm_wire.specs.ResponseCodes.{rc_command_code}
-use Rattle.tpm_wire.specs.declared.refusal.Refusal.{Refusal}
-use Rattle.tpm_output.specs.Text.{line}
+use Rattle.std.specs.Prelude.{ℕ, ◌==◌, List, [], ◌∷◌, codes, Option, find}
 use Rattle.tpm_show.specs.declared.command_names.Listed.{Listed as RustListed}
 
 -- a command's number, its name without TPM_CC_, and how many handles it and its response have
@@ -150,15 +146,3 @@ listed_in table number = find (λ c. c.number == number) table
 -- the command of the library with this code
 abbrev pub command_of : ℕ → Option Listed
 command_of code = listed_in commands code
-
--- ---- behind the refusal of a command's code
-
-unfoldable pub absent_line : List ℕ → List ℕ
-absent_line name =
-    line ((codes "TPM2_" ++ name) ∷ codes "is" ∷ codes "not" ∷ codes "in" ∷ codes "this" ∷ codes "profile" ∷ [])
-
--- Where its code alone is refused: which command it is, if it has a name. The code stands behind the tag and the size.
-abbrev pub absent_name : Refusal → Option ℕ → Option Listed
-absent_name refusal None = None
-absent_name refusal (Some code) =
-    if refusal.code == rc_command_code && refusal.at == 6 then command_of code else None

@@ -2,32 +2,30 @@
 use Rattle.std.specs.Prelude.{ℕ, Bool, true, false, List, [], ◌++◌, codes, flat_map}
 use Rattle.std.specs.Fmt.{decimal}
 use Rattle.tpm_wire.specs.declared.refusal.Refusal.{Refusal}
-use Rattle.tpm_output.specs.Text.{parameters_line, refusal_line}
+use Rattle.tpm_output.specs.Text.{parameters_line}
 use Rattle.tpm_output.specs.Numbers.{hexadecimal}
-use Rattle.tpm_show.specs.CommandNames.{absent_line}
-use Rattle.tpm_show.specs.Explain.{meaning_of}
 use Rattle.tpm_show.specs.FieldText.{field_line, number_line}
 use Rattle.tpm_show.specs.HandleNames.{handle_lines}
-use Rattle.tpm_show.specs.Headers.{code_behind, command_head, reply_head}
-use Rattle.tpm_show.specs.Pieces.{Piece, CommandHead, ReplyHead, Handles, ListBegins, ListEnds, NumberedSession}
-use Rattle.tpm_show.specs.Pieces.{Parameters, Value, StructureBegins, StructureEnds, Number, RefusedWith, Absent}
-use Rattle.tpm_show.specs.Pieces.{Untold}
+use Rattle.tpm_show.specs.Headers.{code_named, command_head, reply_head}
+use Rattle.tpm_show.specs.Passages.{packet_line}
+use Rattle.tpm_show.specs.Pieces.{Piece, CommandHead, ReplyHead, Packet, Handles, ListBegins, ListEnds}
+use Rattle.tpm_show.specs.Pieces.{NumberedSession, Parameters, Value, StructureBegins, StructureEnds, Number}
+use Rattle.tpm_show.specs.Pieces.{RefusedWith, Untold}
 use Rattle.tpm_show.specs.Sessions.{session_line}
 
--- ---- a refusal
+-- ---- a fault
 
-unfoldable pub refusal_words : Refusal → List ℕ
-refusal_words refusal =
-    codes "refused " ++ (hexadecimal 3 refusal.code ++ (codes " at " ++ decimal refusal.at))
+abbrev pub verdict : (beyond : Bool) → List ℕ
+verdict false = codes "refused"
+verdict true = codes "beyond this profile,"
 
--- with the name of its code
-abbrev pub named_refusal_line : Refusal → List ℕ
-named_refusal_line refusal =
-    refusal_words refusal ++ (code_behind (meaning_of refusal.code) refusal.code ++ codes "\n")
+unfoldable pub verdict_words : (beyond : Bool) → Refusal → List ℕ
+verdict_words beyond refusal =
+    verdict beyond ++ (codes " " ++ (hexadecimal 3 refusal.code ++ (codes " at " ++ decimal refusal.at)))
 
-abbrev pub refused_line : (names : Bool) → Refusal → List ℕ
-refused_line false refusal = refusal_line refusal
-refused_line true refusal = named_refusal_line refusal
+-- where names are asked for with that of its code
+abbrev pub verdict_line : (names beyond : Bool) → Refusal → List ℕ
+verdict_line names beyond refusal = verdict_words beyond refusal ++ (code_named names refusal.code ++ codes "\n")
 
 -- ---- a piece
 
@@ -35,6 +33,7 @@ refused_line true refusal = named_refusal_line refusal
 abbrev pub line_of : (names : Bool) → Piece → List ℕ
 line_of names (CommandHead h) = command_head names h
 line_of names (ReplyHead command h) = reply_head names command h
+line_of names (Packet stamp connection) = packet_line stamp connection
 line_of names (Handles handles) = handle_lines names handles
 line_of names (ListBegins name) = []
 line_of names ListEnds = []
@@ -44,8 +43,7 @@ line_of names (Value indent f bytes) = field_line indent f bytes
 line_of names (StructureBegins indent f bytes) = field_line indent f bytes
 line_of names StructureEnds = []
 line_of names (Number indent name n) = number_line indent name n
-line_of names (RefusedWith refusal) = refused_line names refusal
-line_of names (Absent name) = absent_line name
+line_of names (RefusedWith beyond refusal) = verdict_line names beyond refusal
 line_of names (Untold sentence) = sentence ++ codes "\n"
 
 abbrev pub in_lines : (names : Bool) → List Piece → List ℕ

@@ -13,8 +13,8 @@ use Rattle.tpm_output.specs.Named.{Named, named, named_in}
 use Rattle.tpm_output.specs.Numbers.{hexadecimal}
 use Rattle.tpm_show.specs.declared.frame_header.FrameHeader.{FrameHeader}
 use Rattle.tpm_show.specs.CommandNames.{Listed, command_of}
-use Rattle.tpm_show.specs.Explain.{meaning_of, subject_text}
-use Rattle.tpm_show.specs.Meanings.{Meaning}
+use Rattle.tpm_names.specs.Codes.{code_name, meaning_of}
+use Rattle.tpm_names.specs.Meanings.{Meaning}
 use Rattle.tpm_show.specs.Members.{name_member, number_member, text_member}
 
 -- ---- ten bytes
@@ -54,10 +54,6 @@ name_or_number None code = hexadecimal 8 code
 -- the name of a command of the library, or the number of any other
 unfoldable pub command_name : ℕ → List ℕ
 command_name code = name_or_number (command_of code) code
-
--- TPM_RC (Part 2, 6.6), and what the code is about
-abbrev pub code_name : ℕ → Meaning → List ℕ
-code_name code m = codes "TPM_RC_" ++ (m.name ++ subject_text code)
 
 -- ---- in a line
 

@@ -3,7 +3,7 @@
 use Rattle.std.specs.Prelude.{ℕ, ◌/◌, ◌^◌, ◌==◌, List, [], ◌∷◌, codes, Option, if◌then◌else◌}
 use Rattle.tpm_show.specs.declared.layers.Codes.TheVariants.{Base, BaseOrTpm, Tpm}
 use Rattle.tpm_show.specs.declared.layers.Codes.{Codes}
-use Rattle.tpm_show.specs.Meanings.{Meaning, means, meaning_in}
+use Rattle.tpm_names.specs.Meanings.{Meaning, means, meaning_in}
 
 abbrev pub layers : List Meaning
 layers =

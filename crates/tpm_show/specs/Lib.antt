@@ -8,6 +8,9 @@ pub mod Parts
 pub mod Fields
 pub mod Sessions
 pub mod FrameJson
+pub mod Areas
+pub mod Beyond
+pub mod Refusals
 pub mod Show
 pub mod Capture
 pub mod Stream
@@ -15,7 +18,7 @@ pub mod Capturing
 pub mod Packets
 pub mod PacketsTold
 pub mod Build
-pub mod Meanings
+pub mod Building
 pub mod Layers
 pub mod Explain
 pub mod CommandNames
@@ -23,6 +26,7 @@ pub mod Headers
 pub mod Library
 pub mod Members
 pub mod Pieces
+pub mod Passages
 pub mod FrameLines
 pub mod Reports
 pub mod Remarks

@@ -18,7 +18,7 @@ use Rattle.tpm_show.specs.declared.frame_header.FrameHeader.{FrameHeader}
 use Rattle.tpm_show.specs.CommandNames.{Listed, command_of}
 use Rattle.tpm_show.specs.Pieces.{Piece}
 use Rattle.tpm_show.specs.Sessions.{of_command, of_reply}
-use Rattle.tpm_show.specs.Show.{areas_told, reply_areas_told}
+use Rattle.tpm_show.specs.Areas.{areas_told, reply_areas_told}
 
 -- ---- what commands and responses share
 
@@ -82,31 +82,37 @@ behind_handles handles tag = either (tag == 0x8002) (with_sessions handles) (wit
 unfoldable pub response_areas : (handles tag : ℕ) → Layout ResponseAreas
 response_areas handles tag = field (λ a. a.handles) (any_handles handles) (λ hs. behind_handles hs tag)
 
--- ---- what is told of them
+-- ---- where they are there
 
-abbrev pub command_areas_read : Result CommandAreas Refusal → List Piece
-command_areas_read (Ok a) = areas_told a.handles (map of_command a.auths) a.params
-command_areas_read (Err e) = []
+abbrev pub if_read : {A : Type 0} → Result A Refusal → Option A
+if_read (Ok a) = Some a
+if_read (Err e) = None
 
-abbrev pub command_areas_of : Option Listed → (tag : ℕ) → Option (List ℕ) → List Piece
-command_areas_of (Some c) tag (Some rest) = command_areas_read (read_all (command_areas c.handles tag) rest)
-command_areas_of _ tag _ = []
+abbrev pub command_areas_of : Option Listed → (tag : ℕ) → Option (List ℕ) → Option CommandAreas
+command_areas_of (Some c) tag (Some rest) = if_read (read_all (command_areas c.handles tag) rest)
+command_areas_of _ tag _ = None
 
 -- of a command of the library, where its handles and its sessions are there
-abbrev pub library_command : List ℕ → Option FrameHeader → List Piece
-library_command bytes None = []
+abbrev pub library_command : List ℕ → Option FrameHeader → Option CommandAreas
+library_command bytes None = None
 library_command bytes (Some h) = command_areas_of (command_of h.code) h.tag (behind_whole bytes h)
 
-abbrev pub response_areas_read : Result ResponseAreas Refusal → List Piece
-response_areas_read (Ok a) = reply_areas_told a.handles a.params (map of_reply a.auths)
-response_areas_read (Err e) = []
-
-abbrev pub response_areas_of : Listed → (tag : ℕ) → Option (List ℕ) → List Piece
-response_areas_of c tag None = []
-response_areas_of c tag (Some rest) = response_areas_read (read_all (response_areas c.reply_handles tag) rest)
+abbrev pub response_areas_of : Option Listed → (tag : ℕ) → Option (List ℕ) → Option ResponseAreas
+response_areas_of (Some c) tag (Some rest) = if_read (read_all (response_areas c.reply_handles tag) rest)
+response_areas_of _ tag _ = None
 
 -- of a response of code 0 that is to this command of the library, where they are there
-abbrev pub library_response : Listed → List ℕ → Option FrameHeader → List Piece
-library_response c bytes None = []
+abbrev pub library_response : Option Listed → List ℕ → Option FrameHeader → Option ResponseAreas
+library_response c bytes None = None
 library_response c bytes (Some h) =
-    if h.code == 0 then response_areas_of c h.tag (behind_whole bytes h) else []
+    if h.code == 0 then response_areas_of c h.tag (behind_whole bytes h) else None
+
+-- ---- what is told of them
+
+abbrev pub command_areas_told : Option CommandAreas → List Piece
+command_areas_told None = []
+command_areas_told (Some a) = areas_told a.handles (map of_command a.auths) a.params
+
+abbrev pub response_areas_told : Option ResponseAreas → List Piece
+response_areas_told None = []
+response_areas_told (Some a) = reply_areas_told a.handles a.params (map of_reply a.auths)

@@ -1,8 +1,9 @@
 -- What `show --pcap` prints: what went over a simulator's port, one after the other (this profile).
-use Rattle.std.specs.Prelude.{◌≡◌, ℕ, List, [], ◌∷◌, ◌++◌, codes, Some}
+use Rattle.std.specs.Prelude.{◌≡◌, ℕ, ◌+◌, List, [], ◌∷◌, ◌++◌, codes, Some}
 use Rattle.tpm_pcap.specs.declared.entry.Reason.TheVariants.{CutShort, Fragment, SentAgain, OutOfOrder, NoMessage}
 use Rattle.tpm_pcap.specs.declared.entry.Reason.TheVariants.{Malformed, UnknownLink, Unfinished}
 use Rattle.tpm_pcap.specs.declared.entry.Reason.{Reason}
+use Rattle.tpm_pcap.specs.declared.entry.Stamp.{Stamp}
 use Rattle.tpm_pcap.specs.Entries.{Entry, Connection, Untold}
 use Rattle.tpm_pcap.specs.Files.{Traffic, NoCapture, OtherLink, Entries, traffic_in}
 use Rattle.tpm_output.specs.declared.status.Status.TheVariants.{Done, Refused}
@@ -11,9 +12,10 @@ use Rattle.tpm_output.specs.Status.{both}
 use Rattle.tpm_show.specs.declared.capture_lines.Direction.TheVariants.{Command, Reply}
 use Rattle.tpm_show.specs.declared.capture_frames.Awaited.TheVariants.{Nothing, Unknown}
 use Rattle.tpm_show.specs.declared.capture_frames.Awaited.{Awaited}
+use Rattle.tpm_show.specs.declared.passage.Passage.{Passage}
 use Rattle.tpm_show.specs.declared.telling.Telling.{Telling}
 use Rattle.tpm_show.specs.Capture.{Frame, CapturePlace, start, behind, TellsLine}
-use Rattle.tpm_show.specs.Reports.{IsReport, link_report, no_capture_report, packet_report}
+use Rattle.tpm_show.specs.Reports.{IsReport, link_report, no_capture_report, no_packet_report, packet_report}
 use Rattle.tpm_pcap.specs.Entries as went
 
 -- ---- a packet that is not told
@@ -35,18 +37,26 @@ abbrev pub awaited_past : Reason → Awaited → Awaited
 awaited_past SentAgain awaited = awaited
 awaited_past _ awaited = Unknown
 
+-- another connection
+abbrev pub connected : Passage → Passage
+connected p = record p { connection = p.connection + 1 }
+
+-- The next frame ends in this packet.
+abbrev pub among : CapturePlace → Stamp → CapturePlace
+among p stamp = record p { passage = record { connection = p.passage.connection; stamp = Some stamp } }
+
 -- Frames alone have numbers. A reply belongs to a command of its own connection.
 abbrev pub behind_entry : CapturePlace → Entry → CapturePlace
-behind_entry p Connection = record p { awaited = Nothing }
-behind_entry p (went.Command bytes) = behind p (Frame (Some Command) bytes)
-behind_entry p (went.Reply bytes) = behind p (Frame (Some Reply) bytes)
+behind_entry p Connection = record p { awaited = Nothing; passage = connected p.passage }
+behind_entry p (went.Command stamp bytes) = behind (among p stamp) (Frame (Some Command) bytes)
+behind_entry p (went.Reply stamp bytes) = behind (among p stamp) (Frame (Some Reply) bytes)
 behind_entry p (Untold packet reason) = record p { awaited = awaited_past reason p.awaited }
 
 -- A frame is told as that of a line with its mark.
 abbrev pub TellsEntry : CapturePlace → Entry → Status → List ℕ → Type 0
 TellsEntry p Connection status text = (status ≡ Done) × (text ≡ [])
-TellsEntry p (went.Command bytes) status text = TellsLine p (Frame (Some Command) bytes) status text
-TellsEntry p (went.Reply bytes) status text = TellsLine p (Frame (Some Reply) bytes) status text
+TellsEntry p (went.Command stamp bytes) status text = TellsLine (among p stamp) (Frame (Some Command) bytes) status text
+TellsEntry p (went.Reply stamp bytes) status text = TellsLine (among p stamp) (Frame (Some Reply) bytes) status text
 TellsEntry p (Untold packet reason) status text =
     (status ≡ Refused) × IsReport p.how.json (packet_report packet (reason_text reason)) text
 
@@ -61,11 +71,12 @@ TellsEntries p (first ∷ others) status text = (one : Status) × (told : List �
 
 -- ---- a file
 
-abbrev pub TellsTraffic : (how : Telling) → Traffic → Status → List ℕ → Type 0
-TellsTraffic how NoCapture status text = (status ≡ Refused) × IsReport how.json no_capture_report text
-TellsTraffic how (OtherLink number) status text = (status ≡ Refused) × IsReport how.json (link_report number) text
-TellsTraffic how (Entries entries) status text = TellsEntries (start how) entries status text
+abbrev pub TellsTraffic : (how : Telling) → (port : ℕ) → Traffic → Status → List ℕ → Type 0
+TellsTraffic how port NoCapture status text = (status ≡ Refused) × IsReport how.json no_capture_report text
+TellsTraffic how port (OtherLink number) status text = (status ≡ Refused) × IsReport how.json (link_report number) text
+TellsTraffic how port (Entries []) status text = (status ≡ Refused) × IsReport how.json (no_packet_report port) text
+TellsTraffic how port (Entries (first ∷ others)) status text = TellsEntries (start how) (first ∷ others) status text
 
--- For the bytes of a file this is the status and what is printed.
-abbrev pub TellsPackets : (how : Telling) → List ℕ → Status → List ℕ → Type 0
-TellsPackets how bytes status text = TellsTraffic how (traffic_in bytes) status text
+-- For the bytes of a file, and the port of the simulator, this is the status and what is printed.
+abbrev pub TellsPackets : (how : Telling) → (port : ℕ) → List ℕ → Status → List ℕ → Type 0
+TellsPackets how port bytes status text = TellsTraffic how port (traffic_in port bytes) status text

@@ -31,3 +31,4 @@ pub record TellsMany (entries : List Entry) (old new : Capture) (Added : List �
   pub place : place new ≡ behind_entries (place old) entries
   pub all : new.status ≡ both old.status status
   pub number : new.number ≤ old.number + length entries
+  pub connection : new.passage.connection ≤ old.passage.connection + length entries

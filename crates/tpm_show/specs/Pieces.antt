@@ -5,6 +5,7 @@ use Rattle.tpm_wire.specs.Buffers.{Layout}
 use Rattle.tpm_wire.specs.Layout.Form.{field}
 use Rattle.tpm_wire.specs.Spelling.{spelling}
 pub use Rattle.tpm_commands.specs.Row.{Field, named}
+use Rattle.tpm_pcap.specs.declared.entry.Stamp.{Stamp}
 use Rattle.tpm_show.specs.declared.frame_header.FrameHeader.{FrameHeader}
 use Rattle.tpm_show.specs.Sessions.{ShownSession}
 
@@ -12,6 +13,8 @@ pub data Piece : Type 0 where
   -- the header of a command, or of a reply to the command of this code
   CommandHead : FrameHeader → Piece
   ReplyHead : (command : Option ℕ) → FrameHeader → Piece
+  -- the packet in which the frame ends, and the number of its connection
+  Packet : Stamp → (connection : ℕ) → Piece
   Handles : List ℕ → Piece
   -- a list under this name, up to its end
   ListBegins : (name : List ℕ) → Piece
@@ -26,9 +29,8 @@ pub data Piece : Type 0 where
   StructureEnds : Piece
   -- a number by its name: a bit that is set, a field of bits, or a register that is selected
   Number : (indent name : List ℕ) → ℕ → Piece
-  RefusedWith : Refusal → Piece
-  -- a command by its name, which the profile hasn't
-  Absent : (name : List ℕ) → Piece
+  -- a fault, which is beyond this profile, or refused
+  RefusedWith : (beyond : Bool) → Refusal → Piece
   -- why a reply is not told
   Untold : (sentence : List ℕ) → Piece
 

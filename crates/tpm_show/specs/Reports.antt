@@ -100,6 +100,13 @@ no_capture_report = record {
   members = fault_member (codes "no capture of libpcap") ++ at_member 0;
 }
 
+unfoldable pub no_packet : ℕ → List ℕ
+no_packet port = codes "no packet of port " ++ decimal port
+
+-- of a file without packets of the port
+abbrev pub no_packet_report : ℕ → Report
+no_packet_report port = record { lines = no_packet port ++ codes "\n"; members = fault_member (no_packet port) }
+
 unfoldable pub link_fault : ℕ → List ℕ
 link_fault number = codes "link type " ++ (decimal number ++ codes " is not known")
 

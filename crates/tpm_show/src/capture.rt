@@ -11,17 +11,18 @@ ghost use Rattle.tpm_output.specs.InputLines.{AddedTo, CountsRead};
 ghost use Rattle.tpm_show.specs.declared.capture_frames.Awaited.TheVariants.{Unknown};
 ghost use Rattle.tpm_show.specs.Capture.{Frame, frame_at, start, TellsCapture, TellsFrame, ReadsAll};
 ghost use Rattle.tpm_show.specs.Capture.{ReadsTooMuchCapture, TellsEnded};
-ghost use Rattle.tpm_show.specs.Capturing.{read_as, place, Passes, TellsNext};
+ghost use Rattle.tpm_show.specs.Capturing.{frame_as, read_as, place, Passes, TellsNext};
 ghost use Rattle.tpm_show.specs.Members.{object_of};
 ghost use Rattle.tpm_show.specs.Pieces.{Piece};
 ghost use Rattle.tpm_show.specs.Reports.{IsObjectLine, IsReport, fault_report, frame_report, front, front_members};
 ghost use Rattle.tpm_show.specs.Reports.{kind_of};
 
-use crate::capture_frames::{Awaited, awaited_behind, direction_of, tell_frame};
+use crate::capture_frames::{Awaited, FrameAt, awaited_behind, direction_of, tell_frame};
 use crate::capture_lines::{Direction, Line, MOST_LINE, read_line};
 use crate::digits::is_blank;
 use crate::lines::Lines;
 use crate::object::Object;
+use crate::passage::Passage;
 use crate::remark::Remark;
 use crate::reports::push_remark;
 use crate::telling::Telling;
@@ -44,6 +45,8 @@ pub(crate) struct Capture {
     // the number of the next frame
     pub(crate) number: u64,
     pub(crate) awaited: Awaited,
+    // where the frame stands among packets
+    pub(crate) passage: Passage,
     // whether all frames so far are what they are taken for
     pub(crate) status: Status,
 }
@@ -87,6 +90,7 @@ impl Capture {
             how,
             number: 1,
             awaited: Awaited::Nothing,
+            passage: Passage::NONE,
             status: Status::Done,
         }
     }
@@ -114,6 +118,17 @@ impl Capture {
         Ok(())
     }
 
+    fn frame_at<'a>(&self, bytes: &'a [u8]) -> FrameAt<'a>
+        ensures { frame_as result ≡ frame_at (place self.now) bytes.now }
+    {
+        FrameAt {
+            bytes,
+            awaited: self.awaited,
+            passage: self.passage,
+            fields: self.how.fields,
+        }
+    }
+
     // Adds the lines of a frame.
     fn push_lines<const FIELDS: bool>(
         &self,
@@ -129,7 +144,7 @@ impl Capture {
             ++ (frame_report FIELDS self.now.number direction pieces).lines)) }
     {
         let mut lines = Lines::<FIELDS>::new(alloc);
-        let status = tell_frame(&mut lines, FIELDS, direction, self.awaited, bytes)?;
+        let status = tell_frame(&mut lines, direction, self.frame_at(bytes))?;
         push_front(text, self.number, direction)?;
         text.push_str(lines.text.as_str())?;
         Ok(status)
@@ -153,7 +168,7 @@ impl Capture {
     {
         let mut object = Object::begin(alloc)?;
         tell_front(&mut object, self.number, direction)?;
-        let status = tell_frame(&mut object, self.how.fields, direction, self.awaited, bytes)?;
+        let status = tell_frame(&mut object, direction, self.frame_at(bytes))?;
         object.end_line(text)?;
         Ok(status)
     }
@@ -278,24 +293,25 @@ impl LineSink for Capture {
 /// Structure"). NAME is that of the library's command with this code, or the code in eight digits. Fewer than ten
 /// bytes have no header. Behind it stands what `show` tells of a command or of a response, but for its first line.
 ///
-/// A command that is refused has the line of its refusal, and where that is for its code alone, and the library has one
-/// with that code (Part 2, 6.5.2), the line `TPM2_NAME is not in this profile`. Then stand its handles, by Part 3's
-/// number of them, its sessions and its parameters, where the header has the frame's size and a command's tag, and
-/// they are there.
+/// A command that the bytes don't spell has the line of its fault: `refused XXX at N`, or `beyond this profile, XXX at
+/// N`. Then stand its handles, by Part 3's number of them, its sessions and its parameters, where the header has the
+/// frame's size and a command's tag, and they are there. Only such a command is beyond this profile, and where its
+/// fault is one that a larger profile would not have: it is of another command of the library (Part 2, 6.5.2), it has
+/// the number of a hash that is no bank here (6.3), or a list of four to eight banks.
 ///
-/// A reply is read as one to the command before it, by the code of that. To a command that the profile hasn't it is
-/// told by the library's table likewise. With no command before it the line `no command is before it` follows its
-/// header, and with a command whose code the library hasn't, or that has no code, `its command is not known`. A line of
-/// other text is `N not hexadecimal`, and one of more than 8,195 bytes beside its blanks `N too long`; the next is read
-/// all the same.
+/// A reply is read as one to the command before it, by the code of that, and may be beyond this profile likewise. To a
+/// command that the profile hasn't it is told by the library's table. With no command before it the line `no command is
+/// before it` follows its header, and with a command whose code the library hasn't, or that has no code, `its command
+/// is not known`. A line of other text is `N not hexadecimal`, and one of more than 8,195 bytes beside its blanks `N
+/// too long`; the next is read all the same.
 ///
 /// The object has the members `number` and `kind`, which is `command` or `response`. A header has `command`, where a
 /// reply has one before it, `size`, `tag` and `tag_name`; then a command `command_code`, and a response `code` and
 /// `code_name`, where these have names. What stands behind it has `handles`, `handle_names`, a list of the same length
 /// with null where a handle has no name, `sessions` and `parameters`. A session's object has `attribute_names` behind
 /// its attributes, a list of those that are set, and a command's `session_name`. What is refused has `refused`, the
-/// code's name as `fault`, `at`, and `name` where the profile hasn't the command; a reply without its command has
-/// `fault` alone.
+/// code's name as `fault`, and `at`; what is beyond this profile has `beyond` in place of `refused`. A reply without
+/// its command has `fault` alone.
 ///
 /// Where parameters are told by their names there is `fields`, a list of objects with `name`, `type` and `value`, and
 /// `value_name` where `show_fields` has a name behind the value. That of a structure has `fields` likewise, of its
@@ -303,7 +319,8 @@ impl LineSink for Capture {
 /// without a frame has `number` and `fault`. Each says what its line says: bytes, handles, attributes and codes are in
 /// hexadecimal, and no bytes are empty.
 ///
-/// The status is `Refused` where a frame or a line was refused, and else `Done`. What a read gave is answered before
+/// The status is `Refused` where a frame or a line was refused, or a reply to another command of the library is not one
+/// by its table, and else `Done`. What a read gave is answered before
 /// the next read: where that fails, what was written is the text of the lines that had ended. No more than one line
 /// and one piece is held.
 ///

@@ -1,25 +1,27 @@
 //! The frames of a capture.
 
-ghost use Rattle.std.specs.Prelude.{◌≡◌, ◌++◌, [], ◌∷◌, List, IfOk, OnOk, flat_map, option_map};
-ghost use Rattle.tpm_show.specs.Capture.{absent_told, code_number_in, answered_code, awaited_behind, direction_of};
-ghost use Rattle.tpm_show.specs.Capture.{head_told, is_response, other_reply, refused_command};
-ghost use Rattle.tpm_show.specs.Capture.{TellsBuffer, TellsRest, TellsFrame};
-ghost use Rattle.tpm_show.specs.CommandNames.{absent_name, command_of, listed_as};
-ghost use Rattle.tpm_show.specs.Pieces.{Piece, RefusedWith, Untold};
+ghost use Rattle.std.specs.Prelude.{◌≡◌, ◌++◌, [], ◌∷◌, List, IfOk, Some, flat_map};
+ghost use Rattle.tpm_show.specs.Capture.{answered_code, awaited_behind, code_number_in, direction_of, is_code_alone};
+ghost use Rattle.tpm_show.specs.Capture.{is_response, TellsFrame, TellsOther, TellsRest};
+ghost use Rattle.tpm_show.specs.Capturing.{frame_as};
+ghost use Rattle.tpm_show.specs.CommandNames.{command_of, listed_as};
+ghost use Rattle.tpm_show.specs.Pieces.{Piece, Untold};
+ghost use Rattle.tpm_show.specs.Refusals.{CommandBytes, ReplyBytes, TellsBuffer};
 ghost use Rattle.tpm_output.specs.declared.status.Status.TheVariants.{Refused};
-ghost use Rattle.tpm_show.specs.Show.{CommandBytes, ReplyBytes};
 
 use crate::capture_lines::Direction;
-use crate::command_names::{Listed, absent_name, command_of};
+use crate::command_names::{Listed, command_of};
 use crate::frame_header::{FrameHeader, header_in};
-use crate::library::{tell_library_command, tell_library_response};
+use crate::library::library_response;
+use crate::passage::{Passage, tell_passage};
+use crate::refused::{
+    status_if, tell_head, tell_refused_command, tell_refused_reply, tell_response_areas,
+};
 use crate::teller::Teller;
 use crate::told::{command_and_areas, response_and_areas, tell_command_rest, tell_response_rest};
 use std::alloc::AllocError;
 use tpm_output::status::Status;
-use tpm_output::text::Pushed;
 use tpm_types::CommandCode;
-use tpm_wire::Refusal;
 
 /// Which reply may come next.
 #[derive(Clone, Copy, Debug, PartialEq, Eq)]
@@ -32,6 +34,18 @@ pub(crate) enum Awaited {
     Reply(CommandCode),
     /// That to a command with this code, which the profile hasn't.
     Other(u32),
+}
+
+/// A frame where it stands.
+#[derive(Drop, Clone, Copy)]
+pub(crate) struct FrameAt<'a> {
+    pub(crate) bytes: &'a [u8],
+    /// Which reply may come there.
+    pub(crate) awaited: Awaited,
+    /// Its place among packets.
+    pub(crate) passage: Passage,
+    /// Whether its parameters are told by their names, too.
+    pub(crate) fields: bool,
 }
 
 // ---- which way a frame went
@@ -93,52 +107,6 @@ fn answered_code(awaited: Awaited) -> Option<u32>
 
 // ---- what is told of it
 
-// Tells what the header says.
-fn tell_head<T: Teller>(
-    teller: &mut T,
-    direction: Direction,
-    awaited: Awaited,
-    header: Option<FrameHeader>,
-) -> Pushed
-    ensures { OnOk result (T.told teller.new
-        ≡ T.told teller.old ++ flat_map T.marks (head_told direction awaited header)) }
-{
-    let Some(header) = &header else {
-        return Ok(());
-    };
-    match direction {
-        Direction::Command => teller.command_head(header),
-        Direction::Reply => teller.reply_head(answered_code(awaited), header),
-    }
-}
-
-fn tell_absent<T: Teller>(teller: &mut T, command: Option<&'static Listed>) -> Pushed
-    ensures { OnOk result (T.told teller.new ≡ T.told teller.old
-        ++ flat_map T.marks (absent_told (option_map (λ c. listed_as c.now) command.entry))) }
-{
-    match command {
-        Some(command) => teller.absent(command.name),
-        None => Ok(()),
-    }
-}
-
-// Tells which command it is that was refused, where its code alone is.
-fn tell_absent_name<T: Teller>(teller: &mut T, refusal: &Refusal, bytes: &[u8]) -> Pushed
-    ensures { OnOk result (T.told teller.new ≡ T.told teller.old
-        ++ flat_map T.marks (absent_told (absent_name refusal.now (code_number_in bytes.now)))) }
-{
-    tell_absent(teller, absent_name(refusal, code_number(bytes)))
-}
-
-fn tell_refused_command<T: Teller>(teller: &mut T, refusal: &Refusal, bytes: &[u8]) -> Pushed
-    ensures { OnOk result (T.told teller.new
-        ≡ T.told teller.old ++ flat_map T.marks (refused_command refusal.now bytes.now)) }
-{
-    teller.refusal(refusal)?;
-    tell_absent_name(teller, refusal, bytes)?;
-    tell_library_command(teller, bytes)
-}
-
 fn tell_command<T: Teller>(teller: &mut T, fields: bool, bytes: &[u8]) -> Result<Status, AllocError>
     ensures { IfOk result (λ status. (pieces : List Piece)
         × TellsBuffer fields (CommandBytes bytes.now) status pieces
@@ -149,22 +117,8 @@ fn tell_command<T: Teller>(teller: &mut T, fields: bool, bytes: &[u8]) -> Result
             tell_command_rest(teller, fields, &areas, &command.body)?;
             Ok(Status::Done)
         }
-        Err(refusal) => {
-            tell_refused_command(teller, &refusal, bytes)?;
-            Ok(Status::Refused)
-        }
+        Err(refusal) => tell_refused_command(teller, &refusal, bytes),
     }
-}
-
-// Tells why a response is refused.
-#[tactic(auto, using(crate::proofs::Pieces::pieces))]
-fn tell_refusal<T: Teller>(teller: &mut T, refusal: &Refusal) -> Result<Status, AllocError>
-    ensures { IfOk result (λ status. (status ≡ Refused)
-        × (T.told teller.new
-        ≡ T.told teller.old ++ flat_map T.marks (RefusedWith refusal.now ∷ []))) }
-{
-    teller.refusal(refusal)?;
-    Ok(Status::Refused)
 }
 
 fn tell_reply_to<T: Teller>(
@@ -182,7 +136,7 @@ fn tell_reply_to<T: Teller>(
             tell_response_rest(teller, fields, &areas, &response)?;
             Ok(Status::Done)
         }
-        Err(refusal) => tell_refusal(teller, &refusal),
+        Err(refusal) => tell_refused_reply(teller, command, &refusal, bytes),
     }
 }
 
@@ -196,37 +150,60 @@ fn tell_untold<T: Teller>(teller: &mut T, sentence: &str) -> Result<Status, Allo
     Ok(Status::Refused)
 }
 
+// Whether a response is a code alone.
+fn is_code_alone(header: Option<FrameHeader>, bytes: &[u8]) -> bool
+    ensures { result ≡ is_code_alone header bytes.now }
+{
+    match header {
+        Some(header) => header.code != 0 && header.size == 10 && bytes.len() == 10,
+        None => false,
+    }
+}
+
+// Tells a reply to this command of the library, which the profile hasn't.
+fn tell_listed_reply<T: Teller>(
+    teller: &mut T,
+    command: &Listed,
+    bytes: &[u8],
+) -> Result<Status, AllocError>
+    ensures { IfOk result (λ status. (pieces : List Piece)
+        × TellsOther (Some (listed_as command.now)) bytes.now status pieces
+        × (T.told teller.new ≡ T.told teller.old ++ flat_map T.marks pieces)) }
+{
+    let header = header_in(bytes);
+    let areas = library_response(Some(command), bytes, header);
+    tell_response_areas(teller, &areas)?;
+    Ok(status_if(is_code_alone(header, bytes) || areas.is_some()))
+}
+
 // Tells a reply to a command with this code, which the profile hasn't.
 fn tell_other_reply<T: Teller>(
     teller: &mut T,
     code: u32,
     bytes: &[u8],
 ) -> Result<Status, AllocError>
-    ensures { IfOk result (λ status. (status ≡ Refused)
-        × (T.told teller.new
-        ≡ T.told teller.old ++ flat_map T.marks (other_reply (command_of code) bytes.now))) }
+    ensures { IfOk result (λ status. (pieces : List Piece)
+        × TellsOther (command_of code) bytes.now status pieces
+        × (T.told teller.new ≡ T.told teller.old ++ flat_map T.marks pieces)) }
 {
-    let Some(command) = command_of(code) else {
-        return tell_untold(teller, "its command is not known");
-    };
-    tell_library_response(teller, command, bytes)?;
-    Ok(Status::Refused)
+    match command_of(code) {
+        Some(command) => tell_listed_reply(teller, command, bytes),
+        None => tell_untold(teller, "its command is not known"),
+    }
 }
 
 // Tells what stands behind the header.
 fn tell_rest<T: Teller>(
     teller: &mut T,
-    fields: bool,
     direction: Direction,
-    awaited: Awaited,
-    bytes: &[u8],
+    frame: FrameAt<'_>,
 ) -> Result<Status, AllocError>
     ensures { IfOk result (λ status. (pieces : List Piece)
-        × TellsRest direction (record { bytes = bytes.now; awaited = awaited; fields = fields })
-        status pieces
+        × TellsRest direction (frame_as frame.entry) status pieces
         × (T.told teller.new ≡ T.told teller.old ++ flat_map T.marks pieces)) }
 {
-    match (direction, awaited) {
+    let FrameAt { bytes, fields, .. } = frame;
+    match (direction, frame.awaited) {
         (Direction::Command, _) => tell_command(teller, fields, bytes),
         (Direction::Reply, Awaited::Reply(command)) => tell_reply_to(
             teller, fields, command, bytes,
@@ -241,16 +218,15 @@ fn tell_rest<T: Teller>(
 #[tactic(auto, using(crate::proofs::Pieces::pieces))]
 pub(crate) fn tell_frame<T: Teller>(
     teller: &mut T,
-    fields: bool,
     direction: Direction,
-    awaited: Awaited,
-    bytes: &[u8],
+    frame: FrameAt<'_>,
 ) -> Result<Status, AllocError>
     ensures { IfOk result (λ status. (pieces : List Piece)
-        × TellsFrame direction (record { bytes = bytes.now; awaited = awaited; fields = fields })
-        status pieces
+        × TellsFrame direction (frame_as frame.entry) status pieces
         × (T.told teller.new ≡ T.told teller.old ++ flat_map T.marks pieces)) }
 {
-    tell_head(teller, direction, awaited, header_in(bytes))?;
-    tell_rest(teller, fields, direction, awaited, bytes)
+    let answered = answered_code(frame.awaited);
+    tell_head(teller, direction, answered, header_in(frame.bytes))?;
+    tell_passage(teller, frame.passage)?;
+    tell_rest(teller, direction, frame)
 }

@@ -1,11 +1,7 @@
 //! The commands of the library by their names.
 
-ghost use Rattle.std.specs.Prelude.{◌≡◌, ◌++◌, OnOk, map, option_map, string_bytes};
-ghost use Rattle.tpm_show.specs.CommandNames.{absent_line, absent_name, command_of, listed_as, listed_in};
-
-use tpm_output::text::Pushed;
-use tpm_wire::Refusal;
-use tpm_wire::response_code::COMMAND_CODE;
+ghost use Rattle.std.specs.Prelude.{◌≡◌, map, option_map};
+ghost use Rattle.tpm_show.specs.CommandNames.{command_of, listed_as, listed_in};
 
 /// A command of the library.
 #[derive(Clone, Copy)]
@@ -167,28 +163,4 @@ pub(crate) fn command_of(code: u32) -> Option<&'static Listed>
     ensures { option_map (λ c. listed_as c.now) result ≡ command_of code }
 {
     look_up(&COMMANDS, code)
-}
-
-// The refusal of a command whose code is none of this profile.
-const UNSUPPORTED: Refusal = Refusal {
-    code: COMMAND_CODE,
-    at: 6,
-};
-
-/// Adds the line of a command that isn't in the profile.
-#[tactic(auto, unfolding(crate::specs::CommandNames::absent_line))]
-pub(crate) fn push_absent(text: &mut String, name: &str) -> Pushed
-    ensures { OnOk result (string_bytes text.new ≡ string_bytes text.old ++ absent_line name.now) }
-{
-    writeln!(text, "TPM2_{name} is not in this profile")
-}
-
-/// Which command it is that was refused, where its code alone is.
-pub(crate) fn absent_name(refusal: &Refusal, code: Option<u32>) -> Option<&'static Listed>
-    ensures { option_map (λ c. listed_as c.now) result ≡ absent_name refusal.now code }
-{
-    match code {
-        Some(code) if *refusal == UNSUPPORTED => command_of(code),
-        _ => None,
-    }
 }

@@ -3,20 +3,22 @@
 ghost use Rattle.std.specs.Prelude.{◌≡◌, ◌++◌, IfOk, OnOk, Some, codes, option_map, string_bytes};
 ghost use Rattle.tpm_wire.specs.Buffers.{Takes};
 ghost use Rattle.tpm_output.specs.Named.{named_as, named_in};
-ghost use Rattle.tpm_show.specs.Meanings.{meaning_as};
+ghost use Rattle.tpm_names.specs.Codes.{code_name, meaning_of};
+ghost use Rattle.tpm_names.specs.Meanings.{meaning_as};
 ghost use Rattle.tpm_show.specs.Members.{name_member, number_member, text_member};
 ghost use Rattle.tpm_show.specs.Headers.{frame_header, header_in, tag_names, tag_behind, name_behind};
-ghost use Rattle.tpm_show.specs.Headers.{command_name, code_name, code_behind, code_name_member, size_and_tag};
+ghost use Rattle.tpm_show.specs.Headers.{command_name, code_behind, code_named, code_name_member};
+ghost use Rattle.tpm_show.specs.Headers.{size_and_tag};
 ghost use Rattle.tpm_show.specs.Headers.{command_head, answered, reply_head, size_and_tag_members, command_member};
 ghost use Rattle.tpm_show.specs.Headers.{command_head_members, answered_member, reply_head_members};
-ghost use Rattle.tpm_show.specs.Explain.{meaning_of};
 
 use crate::command_names::command_of;
-use crate::explained::{code_meaning, push_subject};
+use crate::explained::push_subject;
 use crate::hex_digits::{eight_digits, four_digits, three_digits};
-use crate::meaning::Meaning;
 use crate::object::Object;
 use std::alloc::{AllocError, Global};
+use tpm_names::codes::code_meaning;
+use tpm_names::meaning::Meaning;
 use tpm_output::named::{Named, look_up};
 use tpm_output::names;
 use tpm_output::text::Pushed;
@@ -125,6 +127,16 @@ pub(crate) fn push_code_name(text: &mut String, code: u32) -> Pushed
     };
     text.push_str(" ")?;
     push_meaning_name(text, code, meaning)
+}
+
+/// The same, where names are asked for.
+pub(crate) fn push_code_named(text: &mut String, names: bool, code: u32) -> Pushed
+    ensures { OnOk result (string_bytes text.new ≡ string_bytes text.old ++ code_named names code) }
+{
+    if !names {
+        return Ok(());
+    }
+    push_code_name(text, code)
 }
 
 #[tactic(auto, using(tpm_output::proofs::Padded::padded), unfolding(crate::specs::Headers::size_and_tag))]

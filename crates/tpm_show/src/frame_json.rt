@@ -1,7 +1,7 @@
 //! The object of JSON of a frame.
 
-ghost use Rattle.std.specs.Prelude.{◌≡◌, ◌++◌, OnOk, codes};
-ghost use Rattle.tpm_show.specs.FrameJson.{refusal_members};
+ghost use Rattle.std.specs.Prelude.{◌≡◌, ◌++◌, OnOk};
+ghost use Rattle.tpm_show.specs.FrameJson.{verdict_members, verdict_name};
 
 use crate::field::Field;
 use crate::field_text::{tell_field, tell_number, tell_structure};
@@ -9,19 +9,27 @@ use crate::frame_header::{FrameHeader, tell_code_name, tell_command_head, tell_r
 use crate::handle_names::tell_handles;
 use crate::hex_digits::three_digits;
 use crate::object::Object;
+use crate::passage::tell_packet;
 use crate::sessions::{Session, tell_session};
 use crate::teller::Teller;
 use tpm_output::text::Pushed;
+use tpm_pcap::Stamp;
 use tpm_wire::Refusal;
 
-#[tactic(auto, unfolding(crate::specs::FrameJson::refusal_members))]
-fn tell_refusal(object: &mut Object, refusal: &Refusal) -> Pushed
+fn verdict_name(beyond: bool) -> &'static str
+    ensures { result.now ≡ verdict_name beyond }
+{
+    if beyond { "beyond" } else { "refused" }
+}
+
+#[tactic(auto, unfolding(crate::specs::FrameJson::verdict_members))]
+fn tell_verdict(object: &mut Object, beyond: bool, refusal: &Refusal) -> Pushed
     ensures { OnOk result (object.new.writer.tokens
-        ≡ object.old.writer.tokens ++ refusal_members refusal.now) }
+        ≡ object.old.writer.tokens ++ verdict_members beyond refusal.now) }
 {
     let Refusal { code, at } = *refusal;
     let digits = three_digits(object.alloc, code)?;
-    object.text_member("refused", digits.as_str())?;
+    object.text_member(verdict_name(beyond), digits.as_str())?;
     tell_code_name(object, "fault", code)?;
     object.number_member("at", at as u64)
 }
@@ -42,6 +50,10 @@ impl Teller for Object {
 
     fn reply_head(&mut self, command: Option<u32>, header: &FrameHeader) -> Pushed {
         tell_reply_head(self, command, header)
+    }
+
+    fn packet(&mut self, stamp: Stamp, connection: u64) -> Pushed {
+        tell_packet(self, stamp, connection)
     }
 
     fn handles(&mut self, handles: &[u32]) -> Pushed {
@@ -81,13 +93,8 @@ impl Teller for Object {
         tell_number(self, name, n)
     }
 
-    fn refusal(&mut self, refusal: &Refusal) -> Pushed {
-        tell_refusal(self, refusal)
-    }
-
-    fn absent(&mut self, name: &str) -> Pushed {
-        let name = format!(in self.alloc; "TPM2_{name}")?;
-        self.text_member("name", name.as_str())
+    fn refusal(&mut self, beyond: bool, refusal: &Refusal) -> Pushed {
+        tell_verdict(self, beyond, refusal)
     }
 
     fn untold(&mut self, sentence: &str) -> Pushed {

@@ -2,9 +2,10 @@
 
 ghost use Rattle.std.specs.Prelude.{◌≡◌, option_map};
 ghost use Rattle.tpm_show.specs.Layers.{codes_of, layer_of, base_of};
-ghost use Rattle.tpm_show.specs.Meanings.{meaning_as};
+ghost use Rattle.tpm_names.specs.Meanings.{meaning_as};
 
-use crate::meaning::{Meaning, look_up, meanings};
+use tpm_names::meaning::{Meaning, look_up};
+use tpm_names::meanings;
 
 /// Which codes a layer answers.
 #[derive(Clone, Copy)]

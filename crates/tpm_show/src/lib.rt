@@ -1,6 +1,8 @@
 //! The subcommands `show`, `build` and `explain`.
 #![tactic(auto)]
 
+mod areas;
+mod beyond;
 mod bits;
 mod built;
 mod capture;
@@ -21,10 +23,11 @@ mod hex_digits;
 mod layers;
 mod library;
 mod lines;
-mod meaning;
 mod object;
 mod packets;
 mod parts;
+mod passage;
+mod refused;
 mod remark;
 mod reply_text;
 mod reports;
@@ -34,7 +37,7 @@ mod teller;
 mod telling;
 mod told;
 
-pub use built::build;
+pub use built::{Built, build};
 pub use capture::show_lines;
 pub use capture_stream::show_stream;
 pub use explained::explain;

@@ -1,29 +1,25 @@
 //! What stands behind the header of a frame, by how many handles a command of the library or its response has.
 
-ghost use Rattle.std.specs.Prelude.{◌≡◌, ◌++◌, ◌<◌, ◌^◌, IfSome, OnOk, Some, flat_map, length, option_map};
+ghost use Rattle.std.specs.Prelude.{◌≡◌, ◌<◌, ◌^◌, IfSome, Some, length, option_map};
 ghost use Rattle.tpm_wire.specs.Buffers.{TakesAs, TakesNumbered};
 ghost use Rattle.tpm_wire.specs.Reading.{read_all};
 ghost use Rattle.tpm_show.specs.CommandNames.{listed_as};
-ghost use Rattle.tpm_show.specs.Headers.{header_in};
 ghost use Rattle.tpm_show.specs.Library.{any_handles, behind_whole, command_sessions, sessions_area, command_areas};
-ghost use Rattle.tpm_show.specs.Library.{command_areas_read, library_command, response_sessions, behind_handles};
-ghost use Rattle.tpm_show.specs.Library.{response_areas, response_areas_read, library_response};
+ghost use Rattle.tpm_show.specs.Library.{behind_handles, command_areas_of, library_command, library_response};
+ghost use Rattle.tpm_show.specs.Library.{response_areas, response_areas_of, response_sessions};
 
 use crate::command_names::{Listed, command_of};
-use crate::frame_header::{FrameHeader, header_in};
+use crate::frame_header::FrameHeader;
 use crate::sessions::{HasSessions, Session};
-use crate::teller::Teller;
-use crate::told::{tell_areas, tell_reply_areas};
 use arrayvec::ArrayVec;
 use std::marker::Model;
 use tpm_buffer::{NO_SESSIONS, SESSIONS, take_authorization_size, take_parameter_size};
-use tpm_output::text::Pushed;
 use tpm_types::{Auth, AuthReply};
 use tpm_wire::response_code::{AUTHSIZE, SIZE};
 use tpm_wire::{Cursor, Refusal, read_list, take_rest};
 
 /// The handles of a command or of a response.
-type Handles = ArrayVec<u32, 255>;
+pub(crate) type Handles = ArrayVec<u32, 255>;
 
 // What stands behind a header that has the size of the frame.
 #[tactic(auto, unfolding(crate::specs::Library::behind_whole))]
@@ -57,9 +53,9 @@ fn take_handles(cursor: &mut Cursor<'_>, count: u8) -> Result<Handles, Refusal>
 /// What stands behind the header of a command.
 #[derive(Drop)]
 pub(crate) struct CommandAreas<'a> {
-    handles: Handles,
+    pub(crate) handles: Handles,
     auths: ArrayVec<Auth, 3>,
-    params: &'a [u8],
+    pub(crate) params: &'a [u8],
 }
 
 impl<'a> Model for CommandAreas<'a> {
@@ -153,39 +149,28 @@ fn read_command_areas(rest: &[u8], handles: u8, tag: u16) -> Result<CommandAreas
     Ok(areas)
 }
 
-fn tell_command_areas<T: Teller>(teller: &mut T, handles: u8, tag: u16, rest: &[u8]) -> Pushed
+// Those of this command of the library.
+fn command_areas_of<'a>(command: &Listed, tag: u16, rest: &'a [u8]) -> Option<CommandAreas<'a>>
     requires { length rest.now < 2 ^ 32 }
-    ensures { OnOk result (T.told teller.new ≡ T.told teller.old
-        ++ flat_map T.marks (command_areas_read (read_all (command_areas handles tag) rest.now))) }
+    ensures { result ≡ command_areas_of (Some (listed_as command.now)) tag (Some rest.now) }
 {
-    match read_command_areas(rest, handles, tag) {
-        Ok(areas) => tell_areas(teller, areas.handles.as_slice(), &areas, areas.params),
-        Err(_) => Ok(()),
+    match read_command_areas(rest, command.handles, tag) {
+        Ok(areas) => Some(areas),
+        Err(_) => None,
     }
 }
 
-fn tell_command_of<T: Teller>(teller: &mut T, bytes: &[u8], header: &FrameHeader) -> Pushed
-    ensures { OnOk result (T.told teller.new
-        ≡ T.told teller.old ++ flat_map T.marks (library_command bytes.now (Some header.now))) }
+/// What stands behind this header of a command of the library, where its handles and its sessions are there.
+pub(crate) fn library_command<'a>(
+    bytes: &'a [u8],
+    header: Option<FrameHeader>,
+) -> Option<CommandAreas<'a>>
+    ensures { result ≡ library_command bytes.now header }
 {
-    let Some(command) = command_of(header.code) else {
-        return Ok(());
-    };
-    match behind_whole(bytes, header) {
-        Some(rest) => { tell_command_areas(teller, command.handles, header.tag, rest) }
-        None => Ok(()),
-    }
-}
-
-/// Tells the areas of a command of the library, where its handles and its sessions are there.
-pub(crate) fn tell_library_command<T: Teller>(teller: &mut T, bytes: &[u8]) -> Pushed
-    ensures { OnOk result (T.told teller.new
-        ≡ T.told teller.old ++ flat_map T.marks (library_command bytes.now (header_in bytes.now))) }
-{
-    match header_in(bytes) {
-        Some(header) => tell_command_of(teller, bytes, &header),
-        None => Ok(()),
-    }
+    let header = header?;
+    let command = command_of(header.code)?;
+    let rest = behind_whole(bytes, &header)?;
+    command_areas_of(command, header.tag, rest)
 }
 
 // ---- a response of code 0
@@ -193,8 +178,8 @@ pub(crate) fn tell_library_command<T: Teller>(teller: &mut T, bytes: &[u8]) -> P
 /// What stands behind the header of a response.
 #[derive(Drop)]
 pub(crate) struct ResponseAreas<'a> {
-    handles: Handles,
-    params: &'a [u8],
+    pub(crate) handles: Handles,
+    pub(crate) params: &'a [u8],
     auths: ArrayVec<AuthReply, 3>,
 }
 
@@ -290,49 +275,31 @@ fn read_response_areas(rest: &[u8], handles: u8, tag: u16) -> Result<ResponseAre
     Ok(areas)
 }
 
-fn tell_response_areas<T: Teller>(teller: &mut T, handles: u8, tag: u16, rest: &[u8]) -> Pushed
+// Those of the response to this command of the library.
+fn response_areas_of<'a>(command: &Listed, tag: u16, rest: &'a [u8]) -> Option<ResponseAreas<'a>>
     requires { length rest.now < 2 ^ 32 }
-    ensures { OnOk result (T.told teller.new ≡ T.told teller.old
-        ++ flat_map T.marks
-        (response_areas_read (read_all (response_areas handles tag) rest.now))) }
+    ensures { result ≡ response_areas_of (Some (listed_as command.now)) tag (Some rest.now) }
 {
-    match read_response_areas(rest, handles, tag) {
-        Ok(areas) => tell_reply_areas(teller, areas.handles.as_slice(), areas.params, &areas),
-        Err(_) => Ok(()),
+    match read_response_areas(rest, command.reply_handles, tag) {
+        Ok(areas) => Some(areas),
+        Err(_) => None,
     }
 }
 
-fn tell_response_of<T: Teller>(
-    teller: &mut T,
-    command: &Listed,
-    bytes: &[u8],
-    header: &FrameHeader,
-) -> Pushed
-    ensures { OnOk result (T.told teller.new ≡ T.told teller.old
-        ++ flat_map T.marks
-        (library_response (listed_as command.now) bytes.now (Some header.now))) }
+/// What stands behind this header of a response of code 0 to this command of the library, where it is there.
+pub(crate) fn library_response<'a>(
+    command: Option<&Listed>,
+    bytes: &'a [u8],
+    header: Option<FrameHeader>,
+) -> Option<ResponseAreas<'a>>
+    ensures { result
+        ≡ library_response (option_map (λ c. listed_as c.now) command.entry) bytes.now header }
 {
+    let header = header?;
     if header.code != 0 {
-        return Ok(());
+        return None;
     }
-    match behind_whole(bytes, header) {
-        Some(rest) => { tell_response_areas(teller, command.reply_handles, header.tag, rest) }
-        None => Ok(()),
-    }
-}
-
-/// Tells the areas of a response that is to this command of the library, where they are there.
-pub(crate) fn tell_library_response<T: Teller>(
-    teller: &mut T,
-    command: &Listed,
-    bytes: &[u8],
-) -> Pushed
-    ensures { OnOk result (T.told teller.new ≡ T.told teller.old
-        ++ flat_map T.marks
-        (library_response (listed_as command.now) bytes.now (header_in bytes.now))) }
-{
-    match header_in(bytes) {
-        Some(header) => tell_response_of(teller, command, bytes, &header),
-        None => Ok(()),
-    }
+    let command = command?;
+    let rest = behind_whole(bytes, &header)?;
+    response_areas_of(command, header.tag, rest)
 }

@@ -1,17 +1,18 @@
 //! The lines of a frame.
 
 ghost use Rattle.std.specs.Prelude.{◌≡◌, ◌++◌, ℕ, OnOk, [], string_bytes};
-ghost use Rattle.tpm_show.specs.FrameLines.{line_of, named_refusal_line, refused_line, refusal_words};
+ghost use Rattle.tpm_show.specs.FrameLines.{line_of, verdict, verdict_line, verdict_words};
 
-use crate::command_names::push_absent;
 use crate::field::Field;
 use crate::field_text::{push_field, push_number};
-use crate::frame_header::{FrameHeader, push_code_name, push_command_head, push_reply_head};
+use crate::frame_header::{FrameHeader, push_code_named, push_command_head, push_reply_head};
 use crate::handle_names::push_handles;
+use crate::passage::push_packet;
 use crate::sessions::{Session, push_session_line};
 use crate::teller::Teller;
 use std::alloc::Global;
-use tpm_output::text::{Pushed, push_parameters, push_refusal};
+use tpm_output::text::{Pushed, push_parameters};
+use tpm_pcap::Stamp;
 use tpm_wire::Refusal;
 
 /// Lines that are told, with the names of numbers behind these or without.
@@ -33,36 +34,35 @@ impl<const NAMES: bool> Lines<NAMES> {
     }
 }
 
-// ---- a refusal
+// ---- a fault
 
-fn push_refusal_words(text: &mut String, refusal: &Refusal) -> Pushed
-    ensures { OnOk result (string_bytes text.new
-        ≡ string_bytes text.old ++ refusal_words refusal.now) }
+fn verdict(beyond: bool) -> &'static str
+    ensures { result.now ≡ verdict beyond }
 {
-    let Refusal { code, at } = *refusal;
-    write!(text, "refused {code:03x} at {at}")
-}
-
-// Adds the line of a refusal with the name of its code.
-fn push_named_refusal(text: &mut String, refusal: &Refusal) -> Pushed
-    ensures { OnOk result (string_bytes text.new
-        ≡ string_bytes text.old ++ named_refusal_line refusal.now) }
-{
-    push_refusal_words(text, refusal)?;
-    push_code_name(text, refusal.code)?;
-    text.push_str("\n")
-}
-
-/// Adds the line of a refusal.
-pub(crate) fn push_refused(text: &mut String, names: bool, refusal: &Refusal) -> Pushed
-    ensures { OnOk result (string_bytes text.new
-        ≡ string_bytes text.old ++ refused_line names refusal.now) }
-{
-    if names {
-        push_named_refusal(text, refusal)
+    if beyond {
+        "beyond this profile,"
     } else {
-        push_refusal(text, refusal)
+        "refused"
     }
+}
+
+fn push_verdict_words(text: &mut String, beyond: bool, refusal: &Refusal) -> Pushed
+    ensures { OnOk result (string_bytes text.new
+        ≡ string_bytes text.old ++ verdict_words beyond refusal.now) }
+{
+    let verdict = verdict(beyond);
+    let Refusal { code, at } = *refusal;
+    write!(text, "{verdict} {code:03x} at {at}")
+}
+
+// Adds the line of a fault, where names are asked for with that of its code.
+fn push_verdict(text: &mut String, names: bool, beyond: bool, refusal: &Refusal) -> Pushed
+    ensures { OnOk result (string_bytes text.new
+        ≡ string_bytes text.old ++ verdict_line names beyond refusal.now) }
+{
+    push_verdict_words(text, beyond, refusal)?;
+    push_code_named(text, names, refusal.code)?;
+    text.push_str("\n")
 }
 
 // ---- a piece
@@ -80,6 +80,10 @@ impl<const NAMES: bool> Teller for Lines<NAMES> {
 
     fn reply_head(&mut self, command: Option<u32>, header: &FrameHeader) -> Pushed {
         push_reply_head(&mut self.text, NAMES, command, header)
+    }
+
+    fn packet(&mut self, stamp: Stamp, connection: u64) -> Pushed {
+        push_packet(&mut self.text, stamp, connection)
     }
 
     fn handles(&mut self, handles: &[u32]) -> Pushed {
@@ -118,12 +122,8 @@ impl<const NAMES: bool> Teller for Lines<NAMES> {
         push_number(&mut self.text, indent, name, n)
     }
 
-    fn refusal(&mut self, refusal: &Refusal) -> Pushed {
-        push_refused(&mut self.text, NAMES, refusal)
-    }
-
-    fn absent(&mut self, name: &str) -> Pushed {
-        push_absent(&mut self.text, name)
+    fn refusal(&mut self, beyond: bool, refusal: &Refusal) -> Pushed {
+        push_verdict(&mut self.text, NAMES, beyond, refusal)
     }
 
     fn untold(&mut self, sentence: &str) -> Pushed {

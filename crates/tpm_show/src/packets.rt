@@ -3,10 +3,11 @@
 ghost use Rattle.std.specs.Prelude.{◌≡◌, ◌++◌, ◌+◌, ◌^◌, ◌<◌, ℕ, List, IfOk, OnOk, string_bytes};
 ghost use Rattle.std.specs.Io.KnownBytes.{Appends};
 ghost use Rattle.tpm_pcap.specs.Entries.{entry_as, entries_as};
+ghost use Rattle.tpm_pcap.specs.Files.{Entries};
 ghost use Rattle.tpm_output.specs.Faults.{FailsByMemoryOrWrite};
 ghost use Rattle.tpm_output.specs.InputLines.{AddedTo};
 ghost use Rattle.tpm_show.specs.Capture.{start};
-ghost use Rattle.tpm_show.specs.Packets.{awaited_past, reason_text, TellsEntries, TellsPackets};
+ghost use Rattle.tpm_show.specs.Packets.{awaited_past, reason_text, TellsEntries, TellsPackets, TellsTraffic};
 ghost use Rattle.tpm_show.specs.PacketsTold.{TellsOne};
 
 use crate::capture::Capture;
@@ -53,19 +54,23 @@ fn awaited_past(reason: Reason, awaited: Awaited) -> Awaited
 
 // Takes what went over the port, and adds what is told of it.
 fn tell_entry(alloc: Global, capture: &mut Capture, entry: &Entry, text: &mut String) -> Pushed
-    requires { capture.old.number + 1 < 2 ^ 64 }
+    requires number { capture.old.number + 1 < 2 ^ 64 }
+    requires connection { capture.old.passage.connection + 1 < 2 ^ 64 }
     ensures { OnOk result (TellsOne (entry_as entry.now) capture.old capture.new
         (AddedTo (string_bytes text.old) (string_bytes text.new))) }
 {
     match entry {
         Entry::Connection => {
             capture.awaited = Awaited::Nothing;
+            capture.passage.connection += 1;
             Ok(())
         }
-        Entry::Command(bytes) => {
+        Entry::Command(stamp, bytes) => {
+            capture.passage.stamp = Some(*stamp);
             capture.tell_frame(alloc, Some(Direction::Command), bytes.as_slice(), text)
         }
-        Entry::Reply(bytes) => {
+        Entry::Reply(stamp, bytes) => {
+            capture.passage.stamp = Some(*stamp);
             capture.tell_frame(alloc, Some(Direction::Reply), bytes.as_slice(), text)
         }
         Entry::Untold(packet, reason) => {
@@ -85,7 +90,8 @@ fn print_entry<W: Write>(
     entry: &Entry,
     out: &mut W,
 ) -> Result<(), ToolFault>
-    requires { capture.old.number + 1 < 2 ^ 64 }
+    requires number { capture.old.number + 1 < 2 ^ 64 }
+    requires connection { capture.old.passage.connection + 1 < 2 ^ 64 }
     ensures ok { OnOk result (TellsOne (entry_as entry.now) capture.old capture.new
         (Appends (W.contents out.old) (W.contents out.new))) }
     ensures err { FailsByMemoryOrWrite result }
@@ -114,14 +120,37 @@ fn print_entries<W: Write>(
     Ok(capture.status)
 }
 
+// The same, or that nothing went over it.
+fn print_traffic<W: Write>(
+    alloc: Global,
+    how: Telling,
+    port: u16,
+    entries: &[Entry],
+    out: &mut W,
+) -> Result<Status, ToolFault>
+    ensures ok { IfOk result (λ status. (text : List ℕ)
+        × TellsTraffic how port (Entries (entries_as entries.now)) status text
+        × Appends (W.contents out.old) (W.contents out.new) text) }
+    ensures err { FailsByMemoryOrWrite result }
+{
+    if entries.is_empty() {
+        return print_remark(alloc, how.json, Remark::NoPacket(port), out);
+    }
+    print_entries(alloc, how, entries, out)
+}
+
 // ---- a file
 
-/// Prints what `show` prints of each frame that went over a TPM simulator's port, or what `show --fields` prints, or an
-/// object of JSON in a line.
+/// Prints what `show` prints of each frame that went over this port of a TPM simulator, or what `show --fields` prints,
+/// or an object of JSON in a line.
 ///
 /// The bytes are those of a file of libpcap or of pcapng (`tpm_pcap::traffic_in`). Each frame is told as `show_lines`
 /// tells that of a line with its mark, in the order in which the frames came, with their numbers from 1. A reply
-/// belongs to the command before it on the same connection.
+/// belongs to the command before it on the same connection. Behind the header stands the line
+/// `packet N time S connection C`: the packet in which the frame ends, by its number in the file, when that was
+/// captured, in seconds since 1970 began (UTC) with nine digits behind the point, and the connection's number, all from
+/// 1. Where the file has no time, or its units are not known, `time S` is missing. In JSON these are the members
+/// `packet`, `time`, a text, and `connection`.
 ///
 /// A packet that is not told has the line `packet N: not told, cut short`, or `its block is malformed`, `its link is
 /// not known`, `a fragment`, `sent again`, `out of order` or `no message begins where one should`; where a message did
@@ -131,7 +160,8 @@ fn print_entries<W: Write>(
 ///
 /// A file that is a capture of neither has the line `no capture of libpcap at 0`, and libpcap's of another kind of link
 /// `link type N is not known at 20`. In JSON these are the members `fault` and `at`, how many bytes of the file are
-/// before what is at fault.
+/// before what is at fault. Where no packet of the port has anything to tell the line is `no packet of port N`, and in
+/// JSON that is `fault`.
 ///
 /// The status is `Refused` where a frame was refused, a packet is not told, or the file is at fault, and else `Done`.
 ///
@@ -141,18 +171,19 @@ pub fn show_packets<W: Write>(
     alloc: Global,
     out: &mut W,
     file: &[u8],
+    port: u16,
     how: Telling,
 ) -> Result<Status, ToolFault>
     ensures ok { IfOk result (λ status. (text : List ℕ)
-        × TellsPackets how file.now status text
+        × TellsPackets how port file.now status text
         × Appends (W.contents out.old) (W.contents out.new) text) }
     ensures err { FailsByMemoryOrWrite result }
 {
-    match traffic_in(alloc, file)? {
+    match traffic_in(alloc, file, port)? {
         Traffic::NoCapture => print_remark(alloc, how.json, Remark::NoCapture, out),
         Traffic::OtherLink(number) => {
             print_remark(alloc, how.json, Remark::OtherLink(number), out)
         },
-        Traffic::Entries(entries) => print_entries(alloc, how, entries.as_slice(), out),
+        Traffic::Entries(entries) => print_traffic(alloc, how, port, entries.as_slice(), out),
     }
 }

@@ -11,6 +11,8 @@ pub(crate) enum Remark {
     Packet(u64, &'static str),
     /// That a file is no capture.
     NoCapture,
+    /// That it has no packet of this port.
+    NoPacket(u16),
     /// That the link of a capture is of this type, which is not known.
     OtherLink(u32),
 }

@@ -1,11 +1,10 @@
 //! The first line of a response, and its handle.
 
 ghost use Rattle.std.specs.Prelude.{◌≡◌, ◌++◌, OnOk, string_bytes};
-ghost use Rattle.tpm_show.specs.Headers.{code_named};
 ghost use Rattle.tpm_show.specs.Pieces.{Handles};
 ghost use Rattle.tpm_show.specs.ReplyText.{handles_of, reply_code_line, reply_code_words, reply_line};
 
-use crate::frame_header::push_code_name;
+use crate::frame_header::push_code_named;
 use crate::teller::Teller;
 use tpm_output::text::Pushed;
 use tpm_types::CommandCode;
@@ -14,15 +13,6 @@ fn push_code_words(text: &mut String, code: u32) -> Pushed
     ensures { OnOk result (string_bytes text.new ≡ string_bytes text.old ++ reply_code_words code) }
 {
     write!(text, "reply code {code:03x}")
-}
-
-fn push_code_named(text: &mut String, names: bool, code: u32) -> Pushed
-    ensures { OnOk result (string_bytes text.new ≡ string_bytes text.old ++ code_named names code) }
-{
-    if !names {
-        return Ok(());
-    }
-    push_code_name(text, code)
 }
 
 /// Adds the line of a response code.

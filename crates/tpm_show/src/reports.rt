@@ -6,7 +6,7 @@ ghost use Rattle.tpm_output.specs.declared.status.Status.TheVariants.{Refused};
 ghost use Rattle.tpm_output.specs.Faults.{FailsByMemoryOrWrite};
 ghost use Rattle.tpm_show.specs.Members.{number_member, object_of, text_member};
 ghost use Rattle.tpm_show.specs.Remarks.{report_of};
-ghost use Rattle.tpm_show.specs.Reports.{IsObjectLine, IsReport, at_member, fault_member, link_fault};
+ghost use Rattle.tpm_show.specs.Reports.{IsObjectLine, IsReport, at_member, fault_member, link_fault, no_packet};
 
 use crate::object::Object;
 use crate::remark::Remark;
@@ -19,7 +19,7 @@ use tpm_output::text::Pushed;
 
 // ---- a line
 
-#[tactic(auto, unfolding(crate::specs::Reports::fault_line, crate::specs::Reports::stop_line, crate::specs::Reports::packet_line, crate::specs::Reports::link_fault))]
+#[tactic(auto, unfolding(crate::specs::Reports::fault_line, crate::specs::Reports::stop_line, crate::specs::Reports::packet_line, crate::specs::Reports::link_fault, crate::specs::Reports::no_packet))]
 fn push_line(text: &mut String, remark: Remark) -> Pushed
     ensures { OnOk result (string_bytes text.new
         ≡ string_bytes text.old ++ (report_of remark).lines) }
@@ -29,6 +29,7 @@ fn push_line(text: &mut String, remark: Remark) -> Pushed
         Remark::Stop(number, fault, at) => writeln!(text, "{number} {fault} at {at}"),
         Remark::Packet(packet, reason) => writeln!(text, "packet {packet}: {reason}"),
         Remark::NoCapture => text.push_str("no capture of libpcap at 0\n"),
+        Remark::NoPacket(port) => writeln!(text, "no packet of port {port}"),
         Remark::OtherLink(number) => writeln!(text, "link type {number} is not known at 20"),
     }
 }
@@ -74,6 +75,21 @@ fn tell_link(object: &mut Object, number: u32) -> Pushed
     tell_fault_at(object, fault.as_str(), 20)
 }
 
+#[tactic(auto, unfolding(crate::specs::Reports::no_packet))]
+fn no_packet(alloc: Global, port: u16) -> Result<String, AllocError>
+    ensures { IfOk result (λ fault. string_bytes fault ≡ no_packet port) }
+{
+    format!(in alloc; "no packet of port {port}")
+}
+
+fn tell_no_packet(object: &mut Object, port: u16) -> Pushed
+    ensures { OnOk result (object.new.writer.tokens
+        ≡ object.old.writer.tokens ++ fault_member (no_packet port)) }
+{
+    let fault = no_packet(object.alloc, port)?;
+    object.text_member("fault", fault.as_str())
+}
+
 fn tell_members(object: &mut Object, remark: Remark) -> Pushed
     ensures { OnOk result (object.new.writer.tokens
         ≡ object.old.writer.tokens ++ (report_of remark).members) }
@@ -83,6 +99,7 @@ fn tell_members(object: &mut Object, remark: Remark) -> Pushed
         Remark::Stop(number, fault, at) => tell_stop(object, number, fault, at as u64),
         Remark::Packet(packet, reason) => tell_numbered_fault(object, "packet", packet, reason),
         Remark::NoCapture => tell_fault_at(object, "no capture of libpcap", 0),
+        Remark::NoPacket(port) => tell_no_packet(object, port),
         Remark::OtherLink(number) => tell_link(object, number),
     }
 }

@@ -69,7 +69,8 @@ pub fn show<W: Write>(
 /// Behind the number of a handle stands its name (Part 2, 7.4), or that of its kind (7.2), and behind a session's
 /// attributes the names of those that are set, with commas between them (8.4). Behind the number of an algorithm, a
 /// command, a start-up type and a type of session stands its name (6.3, 6.5.2, 6.10 and 6.11). The name of a response
-/// code ends its line (6.6), and what the code is about.
+/// code ends its line (6.6), and what the code is about. Of bytes that do not spell what was asked for it prints what
+/// `show_lines` prints of the same frame, without its number and its mark, and the status is that.
 ///
 /// Under the line of a structure its members or entries follow likewise, two more spaces in, by
 /// their names and types in Part 2: those of TPM2B_NV_PUBLIC, TPML_PCR_SELECTION, TPML_DIGEST,

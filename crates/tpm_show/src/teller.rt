@@ -1,14 +1,15 @@
 //! What is told of a frame, a piece at a time.
 
 ghost use Rattle.std.specs.Prelude.{◌≡◌, ◌++◌, List, OnOk};
-ghost use Rattle.tpm_show.specs.Pieces.{Piece, CommandHead, ReplyHead, Handles, ListBegins, ListEnds, NumberedSession};
-ghost use Rattle.tpm_show.specs.Pieces.{Parameters, Value, StructureBegins, StructureEnds, Number, RefusedWith, Absent};
-ghost use Rattle.tpm_show.specs.Pieces.{Untold};
+ghost use Rattle.tpm_show.specs.Pieces.{Piece, CommandHead, ReplyHead, Packet, Handles, ListBegins, ListEnds};
+ghost use Rattle.tpm_show.specs.Pieces.{NumberedSession, Parameters, Value, StructureBegins, StructureEnds, Number};
+ghost use Rattle.tpm_show.specs.Pieces.{RefusedWith, Untold};
 
 use crate::field::Field;
 use crate::frame_header::FrameHeader;
 use crate::sessions::Session;
 use tpm_output::text::Pushed;
+use tpm_pcap::Stamp;
 use tpm_wire::Refusal;
 
 /// Takes what is told of a frame, and makes lines of it, or an object of JSON.
@@ -30,6 +31,10 @@ pub(crate) trait Teller {
     fn reply_head(&mut self, command: Option<u32>, header: &FrameHeader) -> Pushed
         ensures { OnOk result
             (told self.new ≡ told self.old ++ marks (ReplyHead command header.now)) };
+
+    /// The packet in which the frame ends, and the number of its connection.
+    fn packet(&mut self, stamp: Stamp, connection: u64) -> Pushed
+        ensures { OnOk result (told self.new ≡ told self.old ++ marks (Packet stamp connection)) };
 
     /// All handles.
     fn handles(&mut self, handles: &[u32]) -> Pushed
@@ -71,13 +76,10 @@ pub(crate) trait Teller {
         ensures { OnOk result
             (told self.new ≡ told self.old ++ marks (Number indent.now name.now n)) };
 
-    /// A refusal.
-    fn refusal(&mut self, refusal: &Refusal) -> Pushed
-        ensures { OnOk result (told self.new ≡ told self.old ++ marks (RefusedWith refusal.now)) };
-
-    /// That the profile hasn't the command of this name.
-    fn absent(&mut self, name: &str) -> Pushed
-        ensures { OnOk result (told self.new ≡ told self.old ++ marks (Absent name.now)) };
+    /// A fault, which is beyond this profile, or refused.
+    fn refusal(&mut self, beyond: bool, refusal: &Refusal) -> Pushed
+        ensures { OnOk result
+            (told self.new ≡ told self.old ++ marks (RefusedWith beyond refusal.now)) };
 
     /// Why a reply is not told.
     fn untold(&mut self, sentence: &str) -> Pushed

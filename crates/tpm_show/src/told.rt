@@ -1,22 +1,26 @@
 //! What is told of a buffer.
 
-ghost use Rattle.std.specs.Prelude.{◌≡◌, ◌++◌, IfOk, IfErr, OnOk, flat_map, string_bytes};
+ghost use Rattle.std.specs.Prelude.{◌≡◌, ◌++◌, true, false, IfOk, IfErr, OnOk, flat_map, string_bytes};
 ghost use Rattle.tpm_wire.specs.Path.{Fault, Spells};
 ghost use Rattle.tpm_buffer.specs.Commands.{command};
 ghost use Rattle.tpm_buffer.specs.CommandAreas.{HasCut};
 ghost use Rattle.tpm_buffer.specs.Responses.{reply_cut, response};
 ghost use Rattle.tpm_output.specs.declared.status.Status.TheVariants.{Refused};
+ghost use Rattle.tpm_show.specs.Areas.{command_rest, reply_rest, response_rest};
 ghost use Rattle.tpm_show.specs.Fields.{command_fields, reply_fields};
-ghost use Rattle.tpm_show.specs.FrameLines.{refused_line};
+ghost use Rattle.tpm_show.specs.FrameLines.{verdict_line};
 ghost use Rattle.tpm_show.specs.Pieces.{fields_told};
-ghost use Rattle.tpm_show.specs.Show.{areas_told, reply_areas_told, command_line, command_lines, command_rest};
-ghost use Rattle.tpm_show.specs.Show.{reply_rest, response_lines, response_rest};
-ghost use Rattle.tpm_show.specs.Show.{CommandBytes, ReplyBytes, ShowsBuffer};
+ghost use Rattle.tpm_show.specs.Refusals.{CommandBytes, ReplyBytes};
+ghost use Rattle.tpm_show.specs.Show.{ShowsBuffer, ShowsRefused, command_line, command_lines, response_lines};
 
+use crate::areas::tell_areas;
+use crate::capture_lines::Direction;
 use crate::fields::{tell_command_fields, tell_reply_fields};
-use crate::lines::{Lines, push_refused};
+use crate::frame_header::header_in;
+use crate::lines::Lines;
+use crate::refused::{tell_head, tell_refused_command, tell_refused_reply};
 use crate::reply_text::{push_code_line, push_name, tell_first_handle};
-use crate::sessions::{HasSessions, tell_sessions};
+use crate::sessions::tell_sessions;
 use crate::teller::Teller;
 use std::alloc::{AllocError, Global};
 use tpm_buffer::{
@@ -29,14 +33,14 @@ use tpm_output::text::Pushed;
 use tpm_types::CommandCode;
 use tpm_wire::Refusal;
 
-// The lines of a refusal.
-fn refused_answer(alloc: Global, fields: bool, refusal: &Refusal) -> Result<Answer, AllocError>
+// The line of a fault.
+fn refused_line(alloc: Global, refusal: &Refusal) -> Result<Answer, AllocError>
     ensures { IfOk result (λ a. (a.status ≡ Refused)
-        × (string_bytes a.text ≡ refused_line fields refusal.now)) }
+        × (string_bytes a.text ≡ verdict_line false false refusal.now)) }
 {
-    let mut text = String::new(alloc);
-    push_refused(&mut text, fields, refusal)?;
-    Ok(Answer::refused(text))
+    let mut lines = Lines::<false>::new(alloc);
+    lines.refusal(false, refusal)?;
+    Ok(Answer::refused(lines.text))
 }
 
 // ---- a command
@@ -50,36 +54,6 @@ pub(crate) fn command_and_areas(bytes: &[u8]) -> Result<(Command<'_>, Areas<'_>)
     fault_before_params();
     let areas = areas(bytes)?;
     Ok((command, areas))
-}
-
-/// Tells what stands behind a command's header: its handles, its sessions, and its parameters as they came.
-pub(crate) fn tell_areas<A: HasSessions, T: Teller>(
-    teller: &mut T,
-    handles: &[u32],
-    sessions: &A,
-    params: &[u8],
-) -> Pushed
-    ensures { OnOk result (T.told teller.new ≡ T.told teller.old
-        ++ flat_map T.marks (areas_told handles.now (A.sessions sessions.now) params.now)) }
-{
-    teller.handles(handles)?;
-    tell_sessions(teller, sessions)?;
-    teller.parameters(params)
-}
-
-/// Tells what stands behind a response's header: its handles, its parameters as they came, and its sessions.
-pub(crate) fn tell_reply_areas<A: HasSessions, T: Teller>(
-    teller: &mut T,
-    handles: &[u32],
-    params: &[u8],
-    sessions: &A,
-) -> Pushed
-    ensures { OnOk result (T.told teller.new ≡ T.told teller.old
-        ++ flat_map T.marks (reply_areas_told handles.now params.now (A.sessions sessions.now))) }
-{
-    teller.handles(handles)?;
-    teller.parameters(params)?;
-    tell_sessions(teller, sessions)
 }
 
 // Tells the parameters by their names, where this is asked for.
@@ -132,6 +106,39 @@ fn push_command_lines<const FIELDS: bool>(
     tell_command_rest(text, FIELDS, areas, body)
 }
 
+// The lines of a command's fault, and of what a capture tells of it.
+fn refused_command_lines(
+    alloc: Global,
+    refusal: &Refusal,
+    bytes: &[u8],
+) -> Result<Answer, AllocError>
+    ensures { IfOk result (λ a.
+        ShowsRefused true (CommandBytes bytes.now) refusal.now a.status (string_bytes a.text)) }
+{
+    let mut lines = Lines::<true>::new(alloc);
+    tell_head(&mut lines, Direction::Command, None, header_in(bytes))?;
+    let status = tell_refused_command(&mut lines, refusal, bytes)?;
+    Ok(Answer {
+        status,
+        text: lines.text,
+    })
+}
+
+fn refused_command<const FIELDS: bool>(
+    alloc: Global,
+    refusal: &Refusal,
+    bytes: &[u8],
+) -> Result<Answer, AllocError>
+    ensures { IfOk result (λ a.
+        ShowsRefused FIELDS (CommandBytes bytes.now) refusal.now a.status (string_bytes a.text)) }
+{
+    if FIELDS {
+        refused_command_lines(alloc, refusal, bytes)
+    } else {
+        refused_line(alloc, refusal)
+    }
+}
+
 /// The lines of bytes that are taken for a command.
 pub(crate) fn answer_to_command<const FIELDS: bool>(
     alloc: Global,
@@ -146,7 +153,7 @@ pub(crate) fn answer_to_command<const FIELDS: bool>(
             push_command_lines(&mut lines, bytes.len(), &areas, &command.body)?;
             Ok(Answer::done(lines.text))
         }
-        Err(refusal) => refused_answer(alloc, FIELDS, &refusal),
+        Err(refusal) => refused_command::<FIELDS>(alloc, &refusal, bytes),
     }
 }
 
@@ -231,6 +238,46 @@ fn push_response_lines<const FIELDS: bool>(
     }
 }
 
+// The lines of a response's fault, and of what a capture tells of it.
+fn refused_reply_lines(
+    alloc: Global,
+    command: CommandCode,
+    refusal: &Refusal,
+    bytes: &[u8],
+) -> Result<Answer, AllocError>
+    ensures { IfOk result (λ a. ShowsRefused true (ReplyBytes command bytes.now) refusal.now
+        a.status (string_bytes a.text)) }
+{
+    let mut lines = Lines::<true>::new(alloc);
+    tell_head(
+        &mut lines,
+        Direction::Reply,
+        Some(command.number()),
+        header_in(bytes),
+    )?;
+    let status = tell_refused_reply(&mut lines, command, refusal, bytes)?;
+    Ok(Answer {
+        status,
+        text: lines.text,
+    })
+}
+
+fn refused_reply<const FIELDS: bool>(
+    alloc: Global,
+    command: CommandCode,
+    refusal: &Refusal,
+    bytes: &[u8],
+) -> Result<Answer, AllocError>
+    ensures { IfOk result (λ a. ShowsRefused FIELDS (ReplyBytes command bytes.now) refusal.now
+        a.status (string_bytes a.text)) }
+{
+    if FIELDS {
+        refused_reply_lines(alloc, command, refusal, bytes)
+    } else {
+        refused_line(alloc, refusal)
+    }
+}
+
 /// The lines of bytes that are taken for a response to this command.
 pub(crate) fn answer_to_reply<const FIELDS: bool>(
     alloc: Global,
@@ -246,6 +293,6 @@ pub(crate) fn answer_to_reply<const FIELDS: bool>(
             push_response_lines(&mut lines, command, bytes.len(), &areas, &response)?;
             Ok(Answer::done(lines.text))
         }
-        Err(refusal) => refused_answer(alloc, FIELDS, &refusal),
+        Err(refusal) => refused_reply::<FIELDS>(alloc, command, &refusal, bytes),
     }
 }

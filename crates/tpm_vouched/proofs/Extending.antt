@@ -3,13 +3,13 @@ use Rattle.std.proofs.Common.{◌≡◌, ℕ, Bool, true, false, eqb, List, [], 
 use Rattle.std.proofs.Common.{append_assoc, subst}
 use Rattle.std.proofs.lemmas.Bool.{eqb-true}
 use Rattle.std.proofs.lemmas.List.{append-nil}
-use Rattle.std.specs.Prelude.{◌&&◌, ◌||◌, not, flat_map, if◌then◌else◌}
+use Rattle.std.specs.Prelude.{◌&&◌, if◌then◌else◌}
 use Rattle.tpm_types.specs.declared.alg.Alg.{Alg}
 use Rattle.tpm_hmac.specs.Hashes.{digest}
-use Rattle.tpm_pcr.specs.Registers.{Change, register_value, start_value, extended, locality_value, digests_for}
-use Rattle.tpm_log.specs.Records.{LogRecord, named_locality, told_locality, locality_of, bank_digests, ends_locality}
+use Rattle.tpm_pcr.specs.Registers.{Change, register_value, start_value, extended, locality_value}
+use Rattle.tpm_log.specs.Records.{LogRecord, named_locality, told_locality, locality_of}
 use Rattle.tpm_log.specs.Changes.{changes_by, log_changes}
-use Rattle.tpm_vouched.specs.Extends.{digests_extended, digests_extending, extends, start_told, starts, value_before, value_left}
+use Rattle.tpm_vouched.specs.Extends.{digests_extended, digests_extending, start_told, starts, value_before, value_left}
 use Rattle.tpm_vouched.proofs.Timely.{AreTimely, ends}
 
 extended_append : (bank : Alg) (old : List ℕ) (xs ys : List (List ℕ)) → extended bank old (xs ++ ys) ≡ extended bank (extended bank old xs) ys

@@ -4,3 +4,7 @@ pub mod Extending
 pub mod ValueLengths
 pub mod Same
 pub mod Quoted
+pub mod OneDigest
+pub mod Told
+pub mod Allowing
+pub mod Searching

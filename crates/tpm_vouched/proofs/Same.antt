@@ -1,11 +1,11 @@
 -- Two logs that leave one value in a register measured the same there.
-use Rattle.std.proofs.Common.{◌≡◌, ℕ, Bool, true, false, eqb, List, [], ◌∷◌, ◌++◌, length, map, Option, Some, None, refl, sym, ap, ◌∙◌, subst}
+use Rattle.std.proofs.Common.{◌≡◌, ℕ, Bool, true, false, eqb, List, [], ◌∷◌, ◌++◌, map, Option, Some, None, refl, sym, ap, ◌∙◌}
 use Rattle.std.proofs.Common.{inl, inr}
-use Rattle.std.proofs.lemmas.Bool.{eqb-true}
 use Rattle.std.proofs.lemmas.List.{map-append}
 use Rattle.std.proofs.lemmas.List.Elements.{All-head, All-tail}
-use Rattle.std.specs.Prelude.{All, ◌≢◌, flat_map, filter, filter_map, find, nat_eq, if◌then◌else◌}
+use Rattle.std.specs.Prelude.{All, filter_map, nat_eq, option_map, if◌then◌else◌}
 use Rattle.std.specs.Cmp.Lexicographic.{pointwise, same_text}
+use Rattle.std.specs.List.{cons_option}
 use Rattle.tpm_types.specs.declared.alg.Alg.TheVariants.{Sha1, Sha256, Sha384}
 use Rattle.tpm_types.specs.declared.alg.Alg.{Alg}
 use Rattle.tpm_types.specs.Alg.{alg_number, digest_len}
@@ -18,11 +18,11 @@ use Rattle.tpm_log.specs.declared.algorithm_size.AlgorithmSize.{AlgorithmSize}
 use Rattle.tpm_event_data.specs.Events.{Shown}
 use Rattle.tpm_log.specs.Events.{shown}
 use Rattle.tpm_log.specs.Records.{LogRecord, bank_digests}
-use Rattle.tpm_log.specs.Measurements.{AreDigests, HasLength, IsDigestOf}
+use Rattle.tpm_log.specs.Measurements.{HasLength, IsDigestOf}
 use Rattle.tpm_log.proofs.Sound.{IsSound, log_ok}
 use Rattle.tpm_vouched.specs.Extends.{digests_extended, digests_extending, extends, value_before, value_left, values_hashed}
-use Rattle.tpm_vouched.specs.Vouched.{AreApart, AreSame, Measured, ReadLog, SameMeasured, SameText, measured, measured_by, text_of, texts_hashed}
-use Rattle.tpm_vouched.specs.Vouched.{texts_of, with_text}
+use Rattle.tpm_vouched.specs.Vouched.{AreApart, AreSame, Measured, ReadLog, SameMeasured, SameText, TextOfPart, measured, measured_by}
+use Rattle.tpm_vouched.specs.Vouched.{part_of, parts_of, texts_hashed, with_part}
 use Rattle.tpm_vouched.proofs.Extending.{all_extend}
 use Rattle.tpm_vouched.proofs.Peeling.{AreLong, same_chain}
 use Rattle.tpm_vouched.proofs.Timely.{log_timely}
@@ -72,24 +72,25 @@ all_long bank q hashes (e ∷ es) sound =
 -- ---- a digest is the hash of its text
 
 abbrev HasHash : Alg → Measured → Type 0
-HasHash bank m = (t : List ℕ) → m.1 ≡ Some t → m.0 ≡ digest bank t
+HasHash bank m = (p : TextOfPart) → m.1 ≡ Some p → m.0 ≡ digest bank p.text
 
 abbrev AreHashed : Alg → List Measured → Type 0
 AreHashed bank [] = Unit {0}
 AreHashed bank (m ∷ ms) = HasHash bank m × AreHashed bank ms
 
-found_text : (bank : Alg) (d : List ℕ) (texts : List (List ℕ)) (t : List ℕ) → text_of bank d texts ≡ Some t → d ≡ digest bank t
-found_text bank d [] t e = absurd (let z : ⊥ = cc in z)
-found_text bank d (x ∷ texts) t e = go (found_text bank d texts t) (pointwise nat_eq d (digest bank x)) refl e
+found_part : (bank : Alg) (d : List ℕ) (those : List TextOfPart) (p : TextOfPart) → part_of bank d those ≡ Some p → d ≡ digest bank p.text
+found_part bank d [] p e = absurd (let z : ⊥ = cc in z)
+found_part bank d (x ∷ those) p e = go (found_part bank d those p) (pointwise nat_eq d (digest bank x.text)) refl e
   where
-    go : (text_of bank d texts ≡ Some t → d ≡ digest bank t) → (b : Bool) → pointwise nat_eq d (digest bank x) ≡ b
-        → (if b then Some x else text_of bank d texts) ≡ Some t → d ≡ digest bank t
-    go more true is e = same_text d (digest bank x) (sym is) ∙ ap (digest bank) (let s : x ≡ t = cc in s)
+    go : (part_of bank d those ≡ Some p → d ≡ digest bank p.text) → (b : Bool) → pointwise nat_eq d (digest bank x.text) ≡ b
+        → (if b then Some x else part_of bank d those) ≡ Some p → d ≡ digest bank p.text
+    go more true is e =
+        same_text d (digest bank x.text) (sym is) ∙ ap (λ (q : TextOfPart). digest bank q.text) (let s : x ≡ p = cc in s)
     go more false is e = more e
 
-all_hashed : (bank : Alg) (e : Shown) (ds : List (List ℕ)) → AreHashed bank (map (with_text bank e) ds)
+all_hashed : (bank : Alg) (e : Shown) (ds : List (List ℕ)) → AreHashed bank (map (with_part bank e) ds)
 all_hashed bank e [] = tt
-all_hashed bank e (d ∷ ds) = (found_text bank d (texts_of e), all_hashed bank e ds)
+all_hashed bank e (d ∷ ds) = (found_part bank d (parts_of e), all_hashed bank e ds)
 
 hashed_append : (bank : Alg) (ms ns : List Measured) → AreHashed bank ms → AreHashed bank ns → AreHashed bank (ms ++ ns)
 hashed_append bank [] ns hashed others = others
@@ -100,7 +101,7 @@ measured_hashed bank q [] = tt
 measured_hashed bank q (e ∷ es) =
     hashed_append bank (measured_by bank q e) (measured bank q es) (one (extends q e)) (measured_hashed bank q es)
   where
-    one : (b : Bool) → AreHashed bank (if b then map (with_text bank (shown e)) (digests_for bank (bank_digests e.digests)) else [])
+    one : (b : Bool) → AreHashed bank (if b then map (with_part bank (shown e)) (digests_for bank (bank_digests e.digests)) else [])
     one true = all_hashed bank (shown e) (digests_for bank (bank_digests e.digests))
     one false = tt
 
@@ -109,7 +110,7 @@ measured_hashed bank q (e ∷ es) =
 abbrev digest_of : Measured → List ℕ
 digest_of m = m.0
 
-digests_alone : (bank : Alg) (e : Shown) (ds : List (List ℕ)) → map digest_of (map (with_text bank e) ds) ≡ ds
+digests_alone : (bank : Alg) (e : Shown) (ds : List (List ℕ)) → map digest_of (map (with_part bank e) ds) ≡ ds
 digests_alone bank e [] = refl
 digests_alone bank e (d ∷ ds) = ap (λ (l : List (List ℕ)). d ∷ l) (digests_alone bank e ds)
 
@@ -123,14 +124,14 @@ measured_digests bank q (e ∷ es) =
     ds : List (List ℕ)
     ds = digests_for bank (bank_digests e.digests)
 
-    one : (b : Bool) → map digest_of (if b then map (with_text bank (shown e)) ds else []) ≡ (if b then ds else [])
+    one : (b : Bool) → map digest_of (if b then map (with_part bank (shown e)) ds else []) ≡ (if b then ds else [])
     one true = digests_alone bank (shown e) ds
     one false = refl
 
 -- ---- the same digests, and the same texts
 
 abbrev text_in : Measured → Option (List ℕ)
-text_in m = m.1
+text_in m = option_map (λ p. p.text) m.1
 
 module _ (bank : Alg) (P : List ℕ → Type 0) (apart : (x y : List ℕ) → P x → P y → digest bank x ≡ digest bank y → x ≡ y) where
   same_each : (ms ns : List Measured) → AreHashed bank ms → AreHashed bank ns → ((x : List ℕ) → IsAmong x (filter_map text_in ms) → P x)
@@ -149,20 +150,20 @@ module _ (bank : Alg) (P : List ℕ → Type 0) (apart : (x y : List ℕ) → P 
       heads : (x y : List ℕ) (xs ys : List (List ℕ)) → x ∷ xs ≡ y ∷ ys → (x ≡ y) × (xs ≡ ys)
       heads x y xs ys e = (cc, cc)
 
-      those : Option (List ℕ) → List (List ℕ) → List (List ℕ)
-      those None xs = xs
-      those (Some t) xs = t ∷ xs
+      those : Option TextOfPart → List (List ℕ) → List (List ℕ)
+      those o xs = cons_option (option_map (λ p. p.text) o) xs
 
-      rest : (o : Option (List ℕ)) (xs : List (List ℕ)) (x : List ℕ) → IsAmong x xs → IsAmong x (those o xs)
+      rest : (o : Option TextOfPart) (xs : List (List ℕ)) (x : List ℕ) → IsAmong x xs → IsAmong x (those o xs)
       rest None xs x among = among
-      rest (Some t) xs x among = inr among
+      rest (Some p) xs x among = inr among
 
-      by : (o p : Option (List ℕ)) → HasHash bank (m.0, o) → HasHash bank (n.0, p)
+      by : (o p : Option TextOfPart) → HasHash bank (m.0, o) → HasHash bank (n.0, p)
           → ((x : List ℕ) → IsAmong x (those o (filter_map text_in ms)) → P x)
           → ((x : List ℕ) → IsAmong x (those p (filter_map text_in ns)) → P x) → m.0 ≡ n.0 → SameText o p
-      by None p hm hn in_m in_n e = tt
-      by (Some t) None hm hn in_m in_n e = tt
-      by (Some t) (Some u) hm hn in_m in_n e = apart t u (in_m t (inl refl)) (in_n u (inl refl)) (sym (hm t refl) ∙ e ∙ hn u refl)
+      by None q hm hn in_m in_n e = tt
+      by (Some p) None hm hn in_m in_n e = tt
+      by (Some p) (Some q) hm hn in_m in_n e =
+          apart p.text q.text (in_m p.text (inl refl)) (in_n q.text (inl refl)) (sym (hm p refl) ∙ e ∙ hn q refl)
 
 pub same_measured : (bank : Alg) (q : ℕ) (one other : ReadLog) → value_left bank q one.records ≡ value_left bank q other.records
     → AreApart bank q one.records other.records → SameMeasured bank q one.records other.records

@@ -1,2 +1,5 @@
 pub mod Extends
 pub mod Vouched
+pub mod Record
+pub mod Allowed
+pub mod Order

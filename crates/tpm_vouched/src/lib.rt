@@ -2,4 +2,9 @@
 //! texts were measured.
 #![tactic(auto)]
 
+mod allowed;
 pub mod laws;
+mod record;
+
+pub use allowed::{AllowList, AllowedDigest};
+pub use record::{VouchedPart, vouched};

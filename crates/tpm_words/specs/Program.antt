@@ -26,12 +26,12 @@ abbrev pub with_rules : App → List Rule → App
 with_rules app [] = app
 with_rules app (rule ∷ rules) = with_rules (with_rule app rule) rules
 
--- show [--reply NAME] [--fields] [--file FILE] [--binary] [--json] [--pcap FILE] [--nv FILE] [HEX]
+-- show [--reply NAME] [--fields] [--file FILE] [--binary] [--json] [--pcap FILE] [--port N] [--nv FILE] [HEX]
 abbrev pub show_app : App
 show_app = with_rules (new_app (codes "show"))
     (option_rule (codes "reply") ∷ flag_rule (codes "fields") ∷ option_rule (codes "file") ∷ flag_rule (codes "binary")
-    ∷ flag_rule (codes "json") ∷ option_rule (codes "pcap") ∷ option_rule (codes "nv") ∷ optional_rule (codes "HEX")
-    ∷ [])
+    ∷ flag_rule (codes "json") ∷ option_rule (codes "pcap") ∷ option_rule (codes "port") ∷ option_rule (codes "nv")
+    ∷ optional_rule (codes "HEX") ∷ [])
 
 -- build NAME HANDLES SESSIONS PARAMETERS
 abbrev pub build_app : App
@@ -48,12 +48,13 @@ abbrev pub explain_app : App
 explain_app =
     with_rules (new_app (codes "explain")) (flag_rule (codes "decimal") ∷ required_rule (codes "CODE") ∷ [])
 
--- check LOG [--registers FILE] [--quote HEX] [--attest FILE] [--nonce HEX] [--require LIST] [--hash NAME]
--- [--secure-boot] [--any-state] [--json]
+-- check LOG [--registers FILE] [--quote HEX] [--attest FILE] [--nonce HEX] [--any-nonce] [--require LIST]
+-- [--any-selection] [--signer HEX] [--hash NAME] [--secure-boot] [--any-state] [--json]
 abbrev pub check_app : App
 check_app = with_rules (new_app (codes "check"))
     (required_rule (codes "LOG") ∷ option_rule (codes "registers") ∷ option_rule (codes "quote")
-    ∷ option_rule (codes "attest") ∷ option_rule (codes "nonce") ∷ option_rule (codes "require")
+    ∷ option_rule (codes "attest") ∷ option_rule (codes "nonce") ∷ flag_rule (codes "any-nonce")
+    ∷ option_rule (codes "require") ∷ flag_rule (codes "any-selection") ∷ option_rule (codes "signer")
     ∷ option_rule (codes "hash") ∷ flag_rule (codes "secure-boot") ∷ flag_rule (codes "any-state")
     ∷ flag_rule (codes "json") ∷ [])
 

@@ -26,11 +26,12 @@ const AFTER_HELP: &str = "Examples:
   tpmtool build PCR_Reset 00000010 400000090000010000 -
   tpmtool run --greatest 7 <SCRIPT
   tpmtool explain 9a2
+  tpmtool explain TPM_RC_BAD_AUTH
   tpmtool explain NotCryptoAgile
   tpmtool check LOG --registers FILE
-  tpmtool check LOG --attest FILE --nonce 6e6f
+  tpmtool check LOG --attest FILE --nonce 6e6f --require sha256:0,7
   tpmtool check LOG --secure-boot
-  tpmtool check LOG --secure-boot --attest FILE
+  tpmtool check LOG --secure-boot --attest FILE --nonce 6e6f --require sha256:7
   tpmtool events LOG
   tpmtool events LOG --register 7 --digests
 
@@ -61,7 +62,7 @@ pub fn show_words<'a>(alloc: Global, names: &'a str) -> Result<Command<'a>, Allo
     with_words(alloc, show, &SHOW)
 }
 
-const SHOW: [Word<'static>; 8] = [
+const SHOW: [Word<'static>; 9] = [
     Word::Option(
         "reply",
         "NAME",
@@ -88,6 +89,11 @@ const SHOW: [Word<'static>; 8] = [
         "pcap",
         "FILE",
         "Reads the packets of a network that tcpdump wrote, in place of a capture",
+    ),
+    Word::Option(
+        "port",
+        "N",
+        "The simulator's port in these packets; 2321 if it is not given",
     ),
     Word::Option(
         "nv",
@@ -159,7 +165,7 @@ const EXPLAIN: [Word<'static>; 2] = [
     ),
     Word::Required(
         "CODE",
-        "The code, in hexadecimal, or the kind of a fault, as NotCryptoAgile",
+        "The code, in hexadecimal or by its name, or the kind of a fault, as NotCryptoAgile",
     ),
 ];
 
@@ -177,7 +183,7 @@ pub fn check_words<'a>(alloc: Global) -> Result<Command<'a>, AllocError>
     )
 }
 
-const CHECK: [Word<'static>; 10] = [
+const CHECK: [Word<'static>; 13] = [
     LOG,
     Word::Option(
         "registers",
@@ -194,20 +200,26 @@ const CHECK: [Word<'static>; 10] = [
         "FILE",
         "Compares them with a quote as it was signed, a TPMS_ATTEST, and prints what it says",
     ),
-    Word::Option(
-        "nonce",
-        "HEX",
-        "The nonce that was sent for that quote; it is not compared if it is not given",
-    ),
+    Word::Option("nonce", "HEX", "The nonce that was sent for that quote"),
+    Word::Flag("any-nonce", "Takes a quote of whatever nonce"),
     Word::Option(
         "require",
         "LIST",
         "The registers that it has to select, as sha1:7+sha256:0,1,2 or sha256:all",
     ),
+    Word::Flag(
+        "any-selection",
+        "Takes a quote of whatever registers, if it selects one",
+    ),
+    Word::Option(
+        "signer",
+        "HEX",
+        "The qualified name of the key that has to have signed it",
+    ),
     Word::Option(
         "hash",
         "NAME",
-        "The hash of the quote's digest: sha1, sha256 or sha384; sha256 if it is not given",
+        "The hash of the quote's digest: sha1, sha256 or sha384; by its length if it is not given",
     ),
     Word::Flag(
         "secure-boot",

@@ -59,6 +59,18 @@ const DBX: &str =
 const DBT: &str =
     "0700000001000080010000000b00ecc522171a7f440efd1e5428eb764bcdba4dd0cf65d33f50d147db06da41e5ef27000000cbb219d73a3d9645a3bcdad00e67656f03000000000000000100000000000000640062007400e1";
 
+// The makers of devices, as EV_EFI_SPDM_DEVICE_POLICY.
+const DEVICE_POLICY: &str =
+    "07000000e3000080010000000b00ec7bb0c2e3f951ef63d7bf07cc42b3dc713a5dd481c945f3e1896c0cd86b250a2b000000f4b4c2b95fbf2d468adfc5c70ac35dad0500000000000000010000000000000064006500760064006200f1";
+
+// The same with a byte behind the variable.
+const DEVICE_POLICY_LONGER: &str =
+    "07000000e3000080010000000b00012e162000a273350ca4e777ee9c7587a0d3081eeb119cb2e8998a99f21b55d72c000000f4b4c2b95fbf2d468adfc5c70ac35dad0500000000000000010000000000000064006500760064006200f100";
+
+// SecureBoot is 1, told as EV_EFI_SPDM_DEVICE_POLICY.
+const VARIABLE_AS_POLICY: &str =
+    "07000000e3000080010000000b00ccfc4bb32888a345bc8aeadaba552b627d99348c767681ab3141f5b01e40a40e3500000061dfe48bca93d211aa0d00e098032b8c0a00000000000000010000000000000053006500630075007200650042006f006f00740001";
+
 // A byte behind a variable.
 const NO_VARIABLE: &str =
     "0700000001000080010000000b0025af71cbd2bd8367ee99d761f4c84f25572b371f57531e93194f8f46a9f87fcc3600000061dfe48bca93d211aa0d00e098032b8c0a00000000000000010000000000000053006500630075007200650042006f006f0074000100";
@@ -219,14 +231,29 @@ fn a_verdict_is_told(rt: HostRuntime) {
     );
     tells(
         &rt,
-        &[SECURE_BOOT_EMPTY, SEPARATOR],
-        SecureBootState::Unset,
+        &[
+            SECURE_BOOT_ON,
+            PK,
+            KEK,
+            DB,
+            DBX,
+            DEVICE_POLICY,
+            DEVICE_POLICY,
+            SEPARATOR,
+            AUTHORITY,
+        ],
+        SecureBootState::On,
         false,
     );
-    tells(&rt, &[SEPARATOR_FF], SecureBootState::Unset, false);
     tells(
         &rt,
-        &[OTHER_VENDOR, SEPARATOR],
+        &[VARIABLE_AS_POLICY, PK, KEK, DB, SEPARATOR, AUTHORITY],
+        SecureBootState::On,
+        false,
+    );
+    tells(
+        &rt,
+        &[SECURE_BOOT_EMPTY, SEPARATOR],
         SecureBootState::Unset,
         false,
     );
@@ -312,6 +339,24 @@ fn the_first_fault_is_told(rt: HostRuntime) {
     );
     refuses(
         &rt,
+        &[SECURE_BOOT_OFF, DEVICE_POLICY_LONGER, SEPARATOR],
+        SecureBootFaultKind::NoVariable,
+        168,
+    );
+    refuses(
+        &rt,
+        &[SECURE_BOOT_OFF, VARIABLE_AS_POLICY, SEPARATOR],
+        SecureBootFaultKind::Twice,
+        168,
+    );
+    refuses(
+        &rt,
+        &[SECURE_BOOT_OFF, SEPARATOR, DEVICE_POLICY],
+        SecureBootFaultKind::Late,
+        222,
+    );
+    refuses(
+        &rt,
         &[
             SECURE_BOOT_ON,
             PK,
@@ -394,6 +439,13 @@ fn the_first_fault_is_told(rt: HostRuntime) {
         &[SECURE_BOOT_ON, PK, KEK, DB, DBX, SEPARATOR],
         SecureBootFaultKind::NoAuthority,
         577,
+    );
+    refuses(&rt, &[SEPARATOR_FF], SecureBootFaultKind::NoSecureBoot, 119);
+    refuses(
+        &rt,
+        &[OTHER_VENDOR, SEPARATOR],
+        SecureBootFaultKind::NoSecureBoot,
+        222,
     );
 }
 

@@ -2,13 +2,14 @@
 
 use crate::tests::output_reads::{Answered, each_read_may_fail, is_answered};
 use std::alloc::Global;
+use std::mem;
 use std::process::Abort;
 use std::test::Fail;
-use tpm_check::{Compared, check_log};
+use tpm_check::check_log;
+use tpm_options::CheckOptions;
 use tpm_output::fault::ToolFault;
 use tpm_output::status::Status;
 use tpm_testing::{Pieces, bytes};
-use tpm_types::Alg;
 use tpm_wire::Buffer;
 
 // The header, a record that extends nothing, and a separator at register 7.
@@ -29,12 +30,18 @@ fn log(rt: &impl Abort) -> Buffer {
     bytes(LOG).expect(rt, "a log")
 }
 
-// What is compared besides a list: a quote's information.
-pub(crate) fn compared() -> Compared<'static> {
-    Compared {
-        signed: None,
-        quote: Some(QUOTE),
-        hash: Alg::Sha256,
+// What is asked: nothing, or what this quote's information says.
+pub(crate) fn options(quote: Option<&'static str>) -> CheckOptions<'static> {
+    CheckOptions {
+        nonce: None,
+        any_nonce: false,
+        required: None,
+        any_selection: false,
+        signer: None,
+        quote,
+        hash: None,
+        secure_boot: false,
+        any_state: false,
         json: false,
     }
 }
@@ -42,7 +49,11 @@ pub(crate) fn compared() -> Compared<'static> {
 // What a log, a list and the quote answer, and what was written.
 fn checked(alloc: Global, log: &mut Pieces<'_>, list: &mut Pieces<'_>) -> Answered {
     let mut out = Vec::new(alloc);
-    let status = check_log(alloc, log, &compared(), Some(list), &mut out);
+    let mut lent = Some(mem::replace(list, Pieces::new(&[], 1)));
+    let status = check_log(alloc, log, &options(Some(QUOTE)), None, &mut lent, &mut out);
+    if let Some(lent) = lent {
+        *list = lent;
+    }
     (status, out)
 }
 

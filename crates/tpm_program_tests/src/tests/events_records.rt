@@ -1,26 +1,26 @@
 //! The records of logs that come in pieces, and reads that fail.
 
-use crate::tests::check_logs::LOG;
+use crate::tests::check_logs::{LOG, options};
 use crate::tests::output_reads::{Answered, each_read_may_fail, is_answered};
 use std::alloc::Global;
 use std::io;
 use std::io::Write;
 use std::test::Fail;
-use tpm_check::{Asking, tell_secure_boot};
+use tpm_check::check_secure_boot;
 use tpm_events::{Listing, list_events};
 use tpm_output::status::Status;
 use tpm_testing::Pieces;
 
 // The records of the log, by a reading of its bytes in Python.
 pub(crate) const TEXT: &str =
-    "1 0 EV_NO_ACTION not-hashed measured=other at=73 - size 0\n2 7 EV_SEPARATOR hashed=sha1,sha256,sha384 measured=data at=89 sha1=9069ca78e7450a285173431b3e52c5c25299e473,sha256=df3f619804a92fdb4057192dc43dd748ea778adc52bc498ce80524c014b81119,sha384=394341b7182cd227c5c6b07ef8000cdfd86136c4292b8e576573ad7ed9ae41019f5818b4b971c9effc60e1ad9f1289f0 size 4\n";
+    "1 0 EV_NO_ACTION not-hashed measured=other at=73 - size 0\n2 7 EV_SEPARATOR hashed=sha1,sha256,sha384 measured=data at=89 sha1=9069ca78e7450a285173431b3e52c5c25299e473,sha256=df3f619804a92fdb4057192dc43dd748ea778adc52bc498ce80524c014b81119,sha384=394341b7182cd227c5c6b07ef8000cdfd86136c4292b8e576573ad7ed9ae41019f5818b4b971c9effc60e1ad9f1289f0 separator=00000000\n";
 
 // A separator with a digest of SHA-512 alone, which has no bank, and its line.
 const NO_BANK: &str =
     "000000000300000000000000000000000000000000000000000000002100000053706563204944204576656e743033000000000000020002010000000d004000000000000004000000010000000d002248a8803402a2062fee5d37fede63ea8fb30fe502b9d6ba344c0c15c566d555612494e7e0bbc6fcf26e4b2325cb9310d99db8426e78f17ef3191b4d69adcf4a0400000000000000";
 
 const NO_BANK_TEXT: &str =
-    "1 0 EV_SEPARATOR not-hashed measured=other at=65 000d=2248a8803402a2062fee5d37fede63ea8fb30fe502b9d6ba344c0c15c566d555612494e7e0bbc6fcf26e4b2325cb9310d99db8426e78f17ef3191b4d69adcf4a size 4\n";
+    "1 0 EV_SEPARATOR not-hashed measured=other at=65 000d=2248a8803402a2062fee5d37fede63ea8fb30fe502b9d6ba344c0c15c566d555612494e7e0bbc6fcf26e4b2325cb9310d99db8426e78f17ef3191b4d69adcf4a separator=00000000\n";
 
 // Lines with all that they may have.
 pub(crate) const ALL: Listing = Listing {
@@ -48,21 +48,18 @@ fn a_log_is_listed_alike_in_any_pieces(rt: HostRuntime) -> Result<(), Fail> {
 }
 
 // What the definition says of a separator alone in register 7.
-const UNSET: &str = "secure-boot sha1 unset\nsecure-boot sha256 unset\nsecure-boot sha384 unset\n";
-
-const ASKING: Asking = Asking {
-    json: false,
-    any_state: false,
-};
+const UNKNOWN: &str =
+    "secure-boot sha1 unknown NoSecureBoot at 215\nsecure-boot sha256 unknown NoSecureBoot at 215\nsecure-boot sha384 unknown NoSecureBoot at 215\n";
 
 fn told(alloc: Global, log: &mut Pieces<'_>) -> Answered {
     let mut out = Vec::new(alloc);
-    (tell_secure_boot(alloc, log, ASKING, &mut out), out)
+    let status = check_secure_boot(alloc, log, &options(None), None, &mut out);
+    (status, out)
 }
 
 #[test]
 fn secure_boot_is_told_alike_in_any_pieces(rt: HostRuntime) -> Result<(), Fail> {
-    for (log, text) in [(LOG, UNSET), (NO_BANK, "secure-boot no bank\n")] {
+    for (log, text) in [(LOG, UNKNOWN), (NO_BANK, "secure-boot no bank\n")] {
         let log = hex::decode(rt.alloc(), log)?;
         for most in [1, 64, 215] {
             let log = &mut Pieces::new(log.as_slice(), most);

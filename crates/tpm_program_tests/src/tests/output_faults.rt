@@ -157,7 +157,8 @@ fn check<W: Write>(
     };
     let log = &mut SliceSource::new(log.as_slice());
     let mut list = list.map(|list| SliceSource::new(list.as_bytes()));
-    check_log(alloc, log, &check_logs::compared(), list.as_mut(), out)
+    let options = check_logs::options(Some(check_logs::QUOTE));
+    check_log(alloc, log, &options, None, &mut list, out)
 }
 
 fn list<W: Write>(alloc: Global, out: &mut W, log: &str) -> Result<Status, ToolFault> {
@@ -193,7 +194,9 @@ fn perform<W: Write>(alloc: Global, out: &mut W, call: Call) -> Result<Status, T
             show_stream(alloc, &mut SliceSource::new(stream), out, how)
         }
         Call::ShowNv(hex) => show_memory(alloc, out, hex),
-        Call::Build(parameters) => build(alloc, out, CommandCode::Startup, "-", "-", parameters),
+        Call::Build(parameters) => {
+            Ok(build(alloc, out, CommandCode::Startup, "-", "-", parameters)?.status)
+        }
         Call::Run(script) => run(alloc, out, script),
         Call::NotHexadecimal => not_hexadecimal(alloc, out),
         Call::Check(log, list) => check(alloc, out, log, list),

@@ -8,7 +8,7 @@ use crate::tests::session_texts::{bytes, number};
 use std::process::Abort;
 use std::test::*;
 use tpm_buffer::{Areas, AuthRef, areas};
-use tpm_session::{Entity, NONCE_BYTES};
+use tpm_session::{Claim, Entity, NONCE_BYTES};
 use tpm_testing::word;
 use tpm_types::Name;
 
@@ -43,22 +43,21 @@ pub fn follows(rt: &impl Abort, bench: &Bench, rest: &str) -> bool {
 
 // What the checks of the sessions of a command answer, 0 for a yes. Each handle has this Name, and
 // the update counter is 0.
-fn judged(bench: &Bench, entity: &Entity<'_>, name: &[Name; 2], cut: &Areas<'_>) -> u32 {
+fn judged(bench: &Bench, entity: Entity<'_>, name: &[Name; 2], cut: &Areas<'_>) -> u32 {
     let Some(first) = cut.auth(0) else {
         return u32::MAX;
     };
-    let names = &name[..cut.handles().len().min(2)];
     let sessions = &bench.sessions;
+    let claim = Claim {
+        entity,
+        command: cut.code(),
+        names: &name[..cut.handles().len().min(2)],
+        params: cut.params(),
+        update_counter: 0,
+    };
     let answer = match cut.auth(1) {
-        None => sessions.authorize(&[first], entity, cut.code(), names, cut.params(), 0),
-        Some(second) => sessions.authorize(
-            &[first, second],
-            entity,
-            cut.code(),
-            names,
-            cut.params(),
-            0,
-        ),
+        None => sessions.authorize(&[first], &claim),
+        Some(second) => sessions.authorize(&[first, second], &claim),
     };
     match answer {
         Ok(()) => 0,
@@ -79,7 +78,7 @@ pub fn answers(rt: &impl Abort, bench: &Bench, rest: &str) -> bool {
     let code = number(rt, word(&mut rest));
     let bytes = bytes(rt, rest);
     match areas(bytes.as_slice()) {
-        Ok(cut) => judged(bench, &entity, &names, &cut) == code,
+        Ok(cut) => judged(bench, entity, &names, &cut) == code,
         Err(_) => false,
     }
 }

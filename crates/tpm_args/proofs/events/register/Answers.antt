@@ -1,5 +1,5 @@
 use Rattle.std.proofs.Common.{rules, ◌≡◌, ℕ, Some, option_map}
-use Rattle.tpm_args.specs.Numbers.{IsDecimal}
+use Rattle.tpm_names.specs.Numbers.{IsDecimal}
 use Rattle.tpm_args.proofs.Found.{memory_or, no_register}
 use Rattle.tpm_args.proofs.events.register.Goals as goal
 

@@ -1,6 +1,6 @@
 use Rattle.std.proofs.Common.{ℕ, List, subst}
 use Rattle.std.specs.Option.{MatchOption}
-use Rattle.tpm_args.specs.Numbers.{IsHexadecimal}
+use Rattle.tpm_names.specs.Numbers.{IsHexadecimal}
 use Rattle.tpm_args.proofs.explain.number.Goals as goal
 
 pub returns : goal.returns

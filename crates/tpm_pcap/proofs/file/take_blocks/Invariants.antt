@@ -11,7 +11,7 @@ invariant-loop-rest l = record {
   fits : length l.rest ≤ most;
   number : l.reader.packet + length l.rest ≤ length l.blocks + 1;
   told : entries_as l.entries.items ++ entries_from l.format most (reader_as l.reader) l.rest
-      ≡ entries_as l.fn.entries.items ++ entries_of l.format (section_as l.fn.section) l.blocks;
+      ≡ entries_as l.fn.entries.items ++ entries_of l.port l.format (section_as l.fn.section) l.blocks;
 }
 
 abbrev pub decreases-loop-rest : goal.decreases-loop-rest

@@ -3,7 +3,7 @@ use Rattle.tpm_types.specs.declared.command_code.CommandCode.{CommandCode}
 use Rattle.tpm_buffer.specs.Commands.{code_for}
 use Rattle.tpm_model.specs.Callers.{Seal, seal_key}
 use Rattle.tpm_caller.specs.Sent.{Sent, hmac_key}
-use Rattle.tpm_caller.proofs.HmacPlace.{IsUnsigned, unsigned, room, signed, has_spelling}
+use Rattle.tpm_caller.proofs.HmacPlace.{IsUnsigned, unsigned, room, signed, sealed_spelled}
 use Rattle.tpm_caller.proofs.caller.Caller.seal_into.Goals.{After-as_slice-3}
 use Rattle.tpm_caller.proofs.caller.Caller.seal_into.Goals as goal
 
@@ -43,4 +43,4 @@ returns-clause-sealed c =
 pub returns-clause-spelled : goal.returns-clause-spelled
 returns-clause-spelled c =
     let d = (goal.at.returns-clause-spelled c).After-as_slice-3 in
-    has_spelling (seal_of d) c.put_unsigned.ensures.0 c.put_unsigned.new.bytes.items (put d) c.put_unsigned.ensures.6
+    sealed_spelled (seal_of d) c.put_unsigned.ensures.0 c.put_unsigned.new.bytes.items (put d) c.put_unsigned.ensures.6

@@ -1,8 +1,9 @@
-use Rattle.std.proofs.Common.{List, ℕ, ap, ◌∙◌}
+use Rattle.std.proofs.Common.{rules, arith, ◌≡◌, List, ℕ, length, ap, ◌∙◌}
 use Rattle.tpm_types.specs.declared.command_code.CommandCode.{CommandCode}
 use Rattle.tpm_buffer.specs.Commands.{code_for}
 use Rattle.tpm_model.specs.Callers.{Seal, Waiting}
-use Rattle.tpm_caller.specs.Plain.{PlainParts}
+use Rattle.tpm_caller.specs.Plain.{PlainParts, parts_of}
+use Rattle.tpm_caller.proofs.FromParts.{parts_spelled}
 use Rattle.tpm_caller.proofs.Splicing.{sealed_there}
 use Rattle.tpm_caller.proofs.caller.Caller.seal_plain.Goals as goal
 
@@ -29,3 +30,15 @@ returns-clause-sealed c body is =
           c.plain.view_is is c.attrs_for-attrs.ensures c.set_key.ensures mac c.as_slice-4.ensures.value
           c.as_slice-5.ensures.value c.splice-len.ensures.bytes,
     )
+
+pub returns-clause-spelled : goal.returns-clause-spelled
+returns-clause-spelled c body is fit =
+    let s : Seal =
+    record { caller = c.args.self; body = body; names = c.args.names.now; auth = c.args.auth.now; nonce = c.args.nonce; keep = c.args.keep } in
+    let seen : PlainParts = record { code = c.plain.inside.code; handles = c.plain.inside.handles.now; params = c.plain.inside.params.now } in
+    let parts : seen ≡ parts_of body = c.plain.view_is ∙ is in
+    parts_spelled s
+    (record { session = c.splice-len.ensures.session; number = c.splice-len.ensures.number; nonce = search rules })
+    fit
+    (omega (arith, ap (λ (p : PlainParts). length p.handles) parts, c.plain.invariant.1))
+    (omega (arith, ap (λ (p : PlainParts). length p.params) parts, c.plain.invariant.2))

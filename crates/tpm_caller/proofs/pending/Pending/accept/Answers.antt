@@ -30,4 +30,4 @@ returns c =
     let spells = (c.decode_response.ensures.ok c.in-Ok.response).0 c.in-Ok.is in
     open_done z c.self.inside.code c.args.bytes.now c.args.nonce.now c.in-Ok.response c.in_default.field-0
     c.in_default.field-1.items c.after.result code spells c.in-Ok.ensures.spelled c.in_default.is
-    c.requires.checked c.after.ensures
+    c.requires.opens c.after.ensures

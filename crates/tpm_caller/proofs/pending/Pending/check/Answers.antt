@@ -4,12 +4,12 @@ use Rattle.tpm_types.specs.declared.tpms.AuthReply.{AuthReply}
 use Rattle.tpm_commands.specs.Handles.{needs_authorization}
 use Rattle.tpm_model.specs.Callers.{Waiting}
 use Rattle.tpm_caller.specs.declared.waiting.CallerFault.TheVariants as faults
-use Rattle.tpm_caller.specs.Sent.{has_no_params}
-use Rattle.tpm_caller.proofs.Opening.{HasOne, HasMac, mac_is, FaultFor, no_cut, not_one_for, other_length_for}
+use Rattle.tpm_caller.proofs.Opening.{HasOne, HasMac, mac_is, no_cut, not_one_for, other_length_for}
 use Rattle.tpm_caller.proofs.Opening.{other_mac_for, open_for}
 use Rattle.tpm_caller.proofs.FromCut.{plain_wrong_mac}
 use Rattle.tpm_caller.proofs.pending.Pending.check.Goals.{After-as_slice-4}
 use Rattle.tpm_caller.proofs.pending.Pending.check.Goals as goal
+use Rattle.tpm_caller.specs.inner.Finding.{has_no_params, HasFault}
 
 abbrev Authorized : Waiting → Type 0
 Authorized w = needs_authorization w.code ≡ true
@@ -40,8 +40,8 @@ made c =
           c.attrs.ensures (rw (← c.hash-hash.ensures) at c.mac-mac.ensures.value);
     })
 
-pub returns-in_default-clause-fails : goal.returns-in_default-clause-fails
-returns-in_default-clause-fails c =
+pub returns-in_default : goal.returns-in_default
+returns-in_default c =
     let bytes = c.args.bytes.now in
     let z : Waiting = record {
       caller = c.self.inside.caller;
@@ -50,11 +50,11 @@ returns-in_default-clause-fails c =
       nonce = c.self.inside.nonce;
       keep = c.self.inside.keep;
     } in
-    subst (FaultFor bytes faults.NotExpected) c.self.view_is
+    subst (λ (w : Waiting). HasFault w bytes faults.NotExpected) c.self.view_is
     (no_cut bytes faults.NotExpected z (λ k s. c.in_default.not-Ok k ((c.reply_areas.ensures.ok k).1 s)))
 
-pub returns-then-auth_count-ne1-clause-fails : goal.returns-then-auth_count-ne1-clause-fails
-returns-then-auth_count-ne1-clause-fails c =
+pub returns-then-auth_count-ne1 : goal.returns-then-auth_count-ne1
+returns-then-auth_count-ne1 c =
     let bytes = c.args.bytes.now in
     let z : Waiting = record {
       caller = c.self.inside.caller;
@@ -64,12 +64,12 @@ returns-then-auth_count-ne1-clause-fails c =
       keep = c.self.inside.keep;
     } in
     let cut = c.in-Ok.areas in
-    subst (FaultFor bytes faults.NotExpected) c.self.view_is
+    subst (λ (w : Waiting). HasFault w bytes faults.NotExpected) c.self.view_is
     (not_one_for bytes z cut ((c.reply_areas.ensures.ok cut).0 c.in-Ok.is)
     (λ e. c.if-auth_count-ne1.true (c.auth_count.ensures ∙ e)))
 
-pub returns-then-nonce-clause-fails : goal.returns-then-nonce-clause-fails
-returns-then-nonce-clause-fails c =
+pub returns-then-nonce : goal.returns-then-nonce
+returns-then-nonce c =
     let bytes = c.args.bytes.now in
     let z : Waiting = record {
       caller = c.self.inside.caller;
@@ -85,27 +85,29 @@ returns-then-nonce-clause-fails c =
       count = sym c.auth_count.ensures ∙ c.if-auth_count-ne1.false;
       first = sym c.in-Some.is ∙ c.auth.ensures;
     } in
-    subst (FaultFor bytes faults.NotExpected) c.self.view_is
+    subst (λ (w : Waiting). HasFault w bytes faults.NotExpected) c.self.view_is
     (other_length_for bytes z cut a one
     (λ e. c.if-nonce.true (ap length c.nonce-nonce.ensures.value ∙ e ∙ sym (ap length c.nonce.ensures.value))))
 
-pub returns-then-is_empty-clause-first : goal.returns-then-is_empty-clause-first
-returns-then-is_empty-clause-first c =
+pub returns-then-is_empty : goal.returns-then-is_empty
+returns-then-is_empty c =
     let none = subst (λ (w : Waiting). has_no_params w.code ≡ true) c.self.view_is (sym c.has_no_params.ensures ∙ c.if-has_no_params.true) in
     let empty = ap length (sym c.params-params.ensures.value) ∙ eqb-true (length c.params-params.result.now) 0 (sym c.is_empty.ensures ∙ c.if-is_empty.true) in
     plain_wrong_mac c.args.self.now c.args.bytes.now c.in-Ok.areas c.in-Some.session c.mac-mac.result
-    (made (goal.at.returns-then-is_empty-clause-first c).After-as_slice-4)
+    (made (goal.at.returns-then-is_empty c).After-as_slice-4)
     (λ e. both_ways c.same.result c.if-same.false (c.same.ensures.1 (c.hmac.ensures.value ∙ e ∙ sym c.as_slice-4.ensures.value))) none empty
 
-pub returns-clause-fails : goal.returns-clause-fails
-returns-clause-fails c =
-    other_mac_for c.args.bytes.now c.args.self.now c.in-Ok.areas c.in-Some.session c.mac-mac.result (made (goal.at.returns-clause-fails c).After-as_slice-4)
+pub returns : goal.returns
+returns c =
+    other_mac_for c.args.bytes.now c.args.self.now c.in-Ok.areas c.in-Some.session c.mac-mac.result (made (goal.at.returns c).After-as_slice-4)
     (λ e. both_ways c.same.result c.if-same.false (c.same.ensures.1 (c.hmac.ensures.value ∙ e ∙ sym c.as_slice-4.ensures.value)))
     (subst Authorized c.self.view_is c.self.invariant)
 
-pub returns-then-same-clause-opens : goal.returns-then-same-clause-opens
-returns-then-same-clause-opens c =
-    open_for c.args.bytes.now c.nonce-nonce.result.now c.args.self.now c.in-Ok.areas c.in-Some.session c.mac-mac.result
-    (made (goal.at.returns-then-same-clause-opens c).After-as_slice-4)
-    (sym c.hmac.ensures.value ∙ c.same.ensures.0 c.if-same.true ∙ c.as_slice-4.ensures.value)
-    (subst Authorized c.self.view_is c.self.invariant) c.nonce-nonce.ensures.value
+pub returns-then-same : goal.returns-then-same
+returns-then-same c = (
+  open_for c.args.bytes.now c.nonce-nonce.result.now c.args.self.now c.in-Ok.areas c.in-Some.session c.mac-mac.result
+      (made (goal.at.returns-then-same c).After-as_slice-4)
+      (sym c.hmac.ensures.value ∙ c.same.ensures.0 c.if-same.true ∙ c.as_slice-4.ensures.value)
+      (subst Authorized c.self.view_is c.self.invariant) c.nonce-nonce.ensures.value,
+  c.nonce-nonce.ensures.fits,
+)

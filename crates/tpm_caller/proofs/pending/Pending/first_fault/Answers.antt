@@ -8,7 +8,7 @@ returns-in-None c =
     let z = c.args.self.now in
     let same : c.self.inside.code ≡ z.code = ap (λ (s : Waiting). s.code) c.self.view_is in
     let told = told_of z c.self.inside.code c.args.bytes.now c.no_reply.result None same c.no_reply.ensures c.in-None.is in
-    fails_so z c.args.bytes.now c.args.checked told.0 told.1 told.2 (c.requires told.0 told.1 told.2)
+    fails_so z c.args.bytes.now c.args.checked told c.requires
 
 pub returns-in-Some : goal.returns-in-Some
 returns-in-Some c =

@@ -9,7 +9,8 @@ use Rattle.tpm_commands.specs.declared.command_parameters.Params.TheVariants as 
 use Rattle.tpm_commands.specs.declared.response.ReplyBody.TheVariants as replies
 use Rattle.tpm_buffer.specs.Commands.{body_from, bind_in, nv_auth_in}
 use Rattle.tpm_model.specs.Actions.{action}
-use Rattle.tpm_device.specs.Stands.{holds, acted, Steps, step_of}
+use Rattle.tpm_device.specs.Stands.{holds}
+use Rattle.tpm_device.specs.inner.Actions.{acted, Steps, step_of}
 use Rattle.tpm_device.proofs.Further.{always, unchanged}
 use Rattle.tpm_device.proofs.device.Device.act.Goals as goal
 

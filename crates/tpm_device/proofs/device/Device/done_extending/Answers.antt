@@ -2,7 +2,7 @@ use Rattle.std.proofs.Common.{rules, ◌≡◌, Err, refl, sym}
 use Rattle.tpm_commands.specs.declared.command_parameters.Params.TheVariants as params
 use Rattle.tpm_commands.specs.declared.response.ReplyBody.TheVariants as replies
 use Rattle.tpm_buffer.specs.Commands.{body_from}
-use Rattle.tpm_device.specs.Stands.{Begin}
+use Rattle.tpm_device.specs.inner.Performing.{Begin}
 use Rattle.tpm_device.proofs.Passing.{was_done, was_refused, stays_authorized}
 use Rattle.tpm_device.proofs.device.Device.done_extending.Goals as goal
 

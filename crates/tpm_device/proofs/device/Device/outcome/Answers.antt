@@ -1,7 +1,8 @@
 use Rattle.std.proofs.Common.{rules, ◌≡◌, ℕ, Err, refl, sym, subst}
 use Rattle.arrayvec.specs.ArrayVec.{ArrayVec}
 use Rattle.tpm_device.specs.declared.device.Device.{Device}
-use Rattle.tpm_device.specs.Stands.{holds, MayBePerformed}
+use Rattle.tpm_device.specs.Stands.{holds}
+use Rattle.tpm_device.specs.inner.Performing.{MayBePerformed}
 use Rattle.tpm_device.proofs.Passing.{from_begin, sessions_permit, sessions_refuse, outcome_refuses, some_code, some_codes}
 use Rattle.tpm_device.proofs.device.Device.outcome.Goals as goal
 
@@ -15,8 +16,8 @@ performed_alone-requires c =
       empty = c.requires.empty;
     }
 
-pub performed_otherwise-requires : goal.performed_otherwise-requires
-performed_otherwise-requires c =
+pub performed_by_action-requires : goal.performed_by_action-requires
+performed_by_action-requires c =
     let by = sessions_permit (holds c.args.self.now) c.args.bytes.now c.in_ok-areas.areas c.in_ok-areas.ensures.reads (sym c.in_ok-check_sessions.ensures) in
     subst (λ (d : Device). MayBePerformed d c.in_ok-areas.areas c.in_ok-by.by c.performed_alone.new.out) (sym c.in-None.ensures.none.0)
     (subst (λ (o : ArrayVec ℕ). MayBePerformed c.args.self.now c.in_ok-areas.areas c.in_ok-by.by o) (sym c.in-None.ensures.none.1)
@@ -49,15 +50,15 @@ returns-in-None c =
     let p = holds c.args.self.now in
     let n = c.args.nonce.now in
     let did = from_begin c.in_ok-areas.areas c.performed_alone.new.self c.args.self.now n c.performed_alone.new.out c.args.out.now
-    (record { result = c.performed_otherwise.result; device = c.performed_otherwise.new.self; out = c.performed_otherwise.new.out })
-    c.in-None.ensures.none.0 c.in-None.ensures.none.1 c.performed_otherwise.ensures in
+    (record { result = c.performed_by_action.result; device = c.performed_by_action.new.self; out = c.performed_by_action.new.out })
+    c.in-None.ensures.none.0 c.in-None.ensures.none.1 c.performed_by_action.ensures in
     let by = sessions_permit p c.args.bytes.now c.in_ok-areas.areas c.in_ok-areas.ensures.reads (sym c.in_ok-check_sessions.ensures) in
-    let refuses = outcome_refuses p c.args.bytes.now n c.in_ok-areas.areas c.performed_otherwise.result by did.refuses in
+    let refuses = outcome_refuses p c.args.bytes.now n c.in_ok-areas.areas c.performed_by_action.result by did.refuses in
     record {
       answer = λ o h st. rw by.is (did.answer by.evidence o h by.gives st);
       stands = λ o h st. rw by.is (did.stands by.evidence o h by.gives st);
       refuses = refuses;
-      some = some_codes p c.args.bytes.now n c.performed_otherwise.result refuses;
+      some = some_codes p c.args.bytes.now n c.performed_by_action.result refuses;
       refused = did.refused;
       done = did.done;
       none = did.none;

@@ -4,7 +4,7 @@ use Rattle.tpm_commands.specs.Handles.{first}
 use Rattle.tpm_commands.specs.declared.command_parameters.Params.TheVariants as params
 use Rattle.tpm_commands.specs.declared.response.ReplyBody.TheVariants as replies
 use Rattle.tpm_buffer.specs.Commands.{policy_in}
-use Rattle.tpm_device.specs.Stands.{Begin}
+use Rattle.tpm_device.specs.inner.Performing.{Begin}
 use Rattle.tpm_device.proofs.Acting.{body_done, body_refused, fault_refuses, asserting_needs_none}
 use Rattle.tpm_device.proofs.Passing.{stays_authorized}
 use Rattle.tpm_device.proofs.device.Device.performed_asserting.Goals as goal

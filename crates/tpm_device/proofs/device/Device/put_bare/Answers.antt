@@ -3,7 +3,7 @@ use Rattle.tpm_types.specs.declared.tpms.AuthReply.{AuthReply}
 use Rattle.tpm_model.specs.Answers.{reply_params}
 use Rattle.tpm_model.specs.Authorization.{reply_auths}
 use Rattle.tpm_model.specs.Premises.{code_in}
-use Rattle.tpm_device.specs.Stands.{any_bare, reply_bytes}
+use Rattle.tpm_device.specs.inner.Answers.{any_bare, reply_bytes}
 use Rattle.tpm_device.proofs.WithoutParameters.{same_bytes, bare_params}
 use Rattle.tpm_device.proofs.Checked.{password_replies, none_replied}
 use Rattle.tpm_device.proofs.Passing.{reply_is_done}

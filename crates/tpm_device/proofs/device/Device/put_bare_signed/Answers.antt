@@ -1,6 +1,6 @@
 use Rattle.std.proofs.Common.{sym, ap, ◌∙◌}
 use Rattle.tpm_model.specs.Premises.{code_in}
-use Rattle.tpm_device.specs.Stands.{any_bare, bare_bytes}
+use Rattle.tpm_device.specs.inner.Answers.{any_bare, bare_bytes}
 use Rattle.tpm_device.proofs.Passing.{reply_is_done}
 use Rattle.tpm_device.proofs.device.Device.put_bare_signed.Goals as goal
 

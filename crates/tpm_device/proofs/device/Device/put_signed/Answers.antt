@@ -2,7 +2,7 @@ use Rattle.std.proofs.Common.{ℕ, List, sym, ap, ◌∙◌}
 use Rattle.tpm_types.specs.declared.tpms.AuthReply.{AuthReply}
 use Rattle.tpm_model.specs.Authorization.{reply_auths}
 use Rattle.tpm_model.specs.Premises.{code_in}
-use Rattle.tpm_device.specs.Stands.{reply_bytes}
+use Rattle.tpm_device.specs.inner.Answers.{reply_bytes}
 use Rattle.tpm_device.proofs.Passing.{reply_is_done}
 use Rattle.tpm_device.proofs.device.Device.put_signed.Goals as goal
 

@@ -3,7 +3,7 @@ use Rattle.tpm_commands.specs.declared.command.CommandBody.TheVariants as bodies
 use Rattle.tpm_commands.specs.declared.response.ReplyBody.TheVariants as replies
 use Rattle.tpm_buffer.specs.Commands.{with_auths}
 use Rattle.tpm_hmac.specs.Sessions.{trim}
-use Rattle.tpm_device.specs.Stands.{Steps, step_of}
+use Rattle.tpm_device.specs.inner.Actions.{Steps, step_of}
 use Rattle.tpm_device.proofs.Acting.{implied}
 use Rattle.tpm_device.proofs.Further.{one_more, its_owner, its_registers, its_sessions}
 use Rattle.tpm_device.proofs.device.Device.started.Goals as goal

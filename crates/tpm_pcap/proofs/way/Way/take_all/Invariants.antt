@@ -7,6 +7,6 @@ use Rattle.tpm_pcap.proofs.way.Way.take_all.Given as goal
 abbrev pub invariant-loop-byte : goal.invariant-loop-byte
 invariant-loop-byte l = record {
   way : after_bytes l.to_tpm (way_as l.self) (drop l.byte-index l.bytes) ≡ after_bytes l.to_tpm (way_as l.fn.self) l.bytes;
-  told : entries_as l.entries.items ++ bytes_told l.to_tpm l.packet (way_as l.self) (drop l.byte-index l.bytes)
-      ≡ entries_as l.fn.entries.items ++ bytes_told l.to_tpm l.packet (way_as l.fn.self) l.bytes;
+  told : entries_as l.entries.items ++ bytes_told l.to_tpm l.stamp (way_as l.self) (drop l.byte-index l.bytes)
+      ≡ entries_as l.fn.entries.items ++ bytes_told l.to_tpm l.stamp (way_as l.fn.self) l.bytes;
 }

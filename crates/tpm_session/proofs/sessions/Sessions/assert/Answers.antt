@@ -1,6 +1,7 @@
 use Rattle.std.proofs.Common.{refl, ◌∙◌, ap, option_map}
 use Rattle.tpm_model.specs.Sessions.{slot_of}
-use Rattle.tpm_session.specs.Policies.{as_assertion, asserting, with_slot}
+use Rattle.tpm_session.specs.Policies.{as_assertion}
+use Rattle.tpm_session.specs.inner.Asserting.{asserting, with_slot}
 use Rattle.tpm_session.proofs.Asserted.{slot_changed}
 use Rattle.tpm_session.proofs.sessions.Sessions.assert.Goals as goal
 

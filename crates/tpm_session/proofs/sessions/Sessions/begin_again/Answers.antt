@@ -1,6 +1,6 @@
 use Rattle.std.proofs.Common.{refl, ◌∙◌, ap, option_map}
 use Rattle.tpm_model.specs.Sessions.{slot_of}
-use Rattle.tpm_session.specs.Policies.{restarted, with_slot}
+use Rattle.tpm_session.specs.inner.Asserting.{restarted, with_slot}
 use Rattle.tpm_session.proofs.Asserted.{slot_changed}
 use Rattle.tpm_session.proofs.sessions.Sessions.begin_again.Goals as goal
 

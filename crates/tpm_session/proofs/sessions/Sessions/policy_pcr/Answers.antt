@@ -3,7 +3,7 @@ use Rattle.tpm_types.specs.declared.alg.Alg.{Alg}
 use Rattle.tpm_pcr.specs.Registers.{value_in, composite}
 use Rattle.tpm_model.specs.Policies.{Assertion}
 use Rattle.tpm_model.specs.Sessions.{slot_of}
-use Rattle.tpm_session.specs.Policies.{asserting, with_slot}
+use Rattle.tpm_session.specs.inner.Asserting.{asserting, with_slot}
 use Rattle.tpm_session.proofs.Asserted.{asserts_registers}
 use Rattle.tpm_session.proofs.sessions.Sessions.policy_pcr.Goals as goal
 

@@ -1,0 +1,54 @@
+//! The names of what the calls on logs answer.
+
+ghost use Rattle.std.specs.Prelude.{length, option_map};
+ghost use Rattle.tpm_output.specs.Named.{named_in};
+ghost use Rattle.tpm_c.specs.AnswerNames.{answer_names};
+ghost use Rattle.tpm_c.specs.Written.{in_room, IsIn};
+
+use crate::handed::put_in_room;
+use tpm_output::named::{Named, look_up};
+use tpm_output::names;
+
+// The faults of a log, the states of Secure Boot, and why none is told.
+const NAMES: [Named; 26] = names![
+    1 "Truncated",
+    2 "TooLong",
+    3 "NotCryptoAgile",
+    4 "BadHeader",
+    5 "DuplicateAlgorithm",
+    6 "WrongDigestSize",
+    7 "UnknownAlgorithm",
+    8 "RepeatedDigest",
+    9 "BadRegister",
+    10 "BadLocality",
+    11 "LateLocality",
+    48 "on",
+    49 "off",
+    50 "unset",
+    64 "NotMeasured",
+    65 "OtherType",
+    66 "NoVariable",
+    67 "Twice",
+    68 "OtherValue",
+    69 "Debugger",
+    70 "BadSeparator",
+    71 "NoSeparator",
+    72 "Late",
+    73 "NoKey",
+    74 "NoAuthority",
+    75 "NoSecureBoot",
+];
+
+/// Writes the name of what a call on a log answered, a log's fault, a state of Secure Boot or why none is told, as
+/// `Truncated`, `on` or `NotMeasured`, to the beginning of `out`, and says how many bytes it has. It answers 0, and
+/// nothing is written, for any other answer and where there is less room.
+#[unsafe(no_mangle)]
+pub extern "C" fn tpm_log_answer_name(answer: u32, out: &mut [u8]) -> usize
+    ensures { IsIn (in_room (length out.old) (option_map (λ n. n.name) (named_in answer_names answer)))
+        out.old out.new result }
+{
+    match look_up(&NAMES, answer) {
+        Some(named) => put_in_room(out, named.name.as_bytes()),
+        None => 0,
+    }
+}

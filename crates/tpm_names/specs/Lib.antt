@@ -1,0 +1,4 @@
+pub mod Meanings
+pub mod Codes
+pub mod Numbers
+pub mod Selections

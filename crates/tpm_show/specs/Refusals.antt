@@ -1,0 +1,97 @@
+-- What is told of a buffer, whether the bytes spell what they are taken for or not (this profile).
+use Rattle.std.specs.Prelude.{◌≡◌, ◌⊎◌, ℕ, ◌&&◌, Bool, true, false, List, [], ◌∷◌, Option, Some, None, is_some}
+use Rattle.std.specs.Prelude.{option_map}
+use Rattle.tpm_wire.specs.declared.refusal.Refusal.{Refusal}
+use Rattle.tpm_wire.specs.Path.{Spells, Fault}
+use Rattle.tpm_types.specs.declared.command_code.CommandCode.{CommandCode}
+use Rattle.tpm_types.specs.CommandCodes.{code_number}
+use Rattle.tpm_commands.specs.declared.command.Command.{Command as CommandOf}
+use Rattle.tpm_commands.specs.declared.response.Response.{Response}
+use Rattle.tpm_buffer.specs.Commands.{command}
+use Rattle.tpm_buffer.specs.CommandAreas.{Cut, HasCut}
+use Rattle.tpm_buffer.specs.Responses.{ReplyCut, reply_cut, response}
+use Rattle.tpm_output.specs.declared.status.Status.TheVariants.{Done, Refused}
+use Rattle.tpm_output.specs.declared.status.Status.{Status}
+use Rattle.tpm_show.specs.declared.capture_lines.Direction.TheVariants.{Command, Reply}
+use Rattle.tpm_show.specs.declared.capture_lines.Direction.{Direction}
+use Rattle.tpm_show.specs.declared.frame_header.FrameHeader.{FrameHeader}
+use Rattle.tpm_show.specs.Areas.{command_rest, response_rest}
+use Rattle.tpm_show.specs.Beyond.{is_beyond}
+use Rattle.tpm_show.specs.CommandNames.{command_of}
+use Rattle.tpm_show.specs.Headers.{header_in}
+use Rattle.tpm_show.specs.Library.{command_areas_told, library_command, library_response, response_areas_told}
+use Rattle.tpm_show.specs.Pieces.{Piece, CommandHead, ReplyHead, RefusedWith}
+
+-- bytes that are taken for a command, or for a response to this one
+pub data Buffer : Type 0 where
+  CommandBytes : (bytes : List ℕ) → Buffer
+  ReplyBytes : (command : CommandCode) → (bytes : List ℕ) → Buffer
+
+-- ---- the header
+
+-- what it says, of a reply to the command of this code
+abbrev pub head_told : Direction → (answered : Option ℕ) → Option FrameHeader → List Piece
+head_told direction answered None = []
+head_told Command answered (Some h) = CommandHead h ∷ []
+head_told Reply answered (Some h) = ReplyHead answered h ∷ []
+
+abbrev pub buffer_head : Buffer → List Piece
+buffer_head (CommandBytes bytes) = head_told Command None (header_in bytes)
+buffer_head (ReplyBytes code bytes) = head_told Reply (Some (code_number code)) (header_in bytes)
+
+-- ---- a fault
+
+-- the bytes' fault
+abbrev pub IsFault : Buffer → Refusal → Type 0
+IsFault (CommandBytes bytes) refusal = Fault command bytes refusal
+IsFault (ReplyBytes code bytes) refusal = Fault (response code) bytes refusal
+
+-- the code of a header; without one none is beyond the profile
+abbrev pub code_in : Option FrameHeader → ℕ
+code_in None = 0
+code_in (Some h) = h.code
+
+-- It is beyond this profile where a larger one would not have it, and the library's tables have what is behind the
+-- header.
+abbrev pub is_buffer_beyond : Buffer → Refusal → Bool
+is_buffer_beyond (CommandBytes bytes) refusal =
+    is_some (library_command bytes (header_in bytes)) && is_beyond Command (code_in (header_in bytes)) refusal bytes
+is_buffer_beyond (ReplyBytes code bytes) refusal =
+    is_some (library_response (command_of (code_number code)) bytes (header_in bytes))
+    && is_beyond Reply (code_number code) refusal bytes
+
+-- what is behind the header by the library's tables
+abbrev pub library_told : Buffer → List Piece
+library_told (CommandBytes bytes) = command_areas_told (library_command bytes (header_in bytes))
+library_told (ReplyBytes code bytes) =
+    response_areas_told (library_response (command_of (code_number code)) bytes (header_in bytes))
+
+abbrev pub refused_told : Buffer → Refusal → List Piece
+refused_told buffer refusal = RefusedWith (is_buffer_beyond buffer refusal) refusal ∷ library_told buffer
+
+-- What is beyond this profile is not refused.
+abbrev pub status_if : (beyond : Bool) → Status
+status_if true = Done
+status_if false = Refused
+
+-- ---- a buffer
+
+-- A command or a response that the bytes spell is told behind its header.
+abbrev pub TellsSpelled : (fields : Bool) → Buffer → List Piece → Type 0
+TellsSpelled fields (CommandBytes bytes) pieces =
+    (c : CommandOf) × (areas : Cut) × Spells command c bytes × HasCut bytes areas
+    × (pieces ≡ command_rest fields areas c.body)
+TellsSpelled fields (ReplyBytes code bytes) pieces =
+    (r : Response) × (areas : ReplyCut) × Spells (response code) r bytes × Spells (reply_cut code) areas bytes
+    × (pieces ≡ response_rest fields areas r)
+
+abbrev pub TellsRefused : Buffer → Status → List Piece → Type 0
+TellsRefused buffer status pieces =
+    (refusal : Refusal) × IsFault buffer refusal
+    × (status ≡ status_if (is_buffer_beyond buffer refusal))
+    × (pieces ≡ refused_told buffer refusal)
+
+-- It is told, and else their fault.
+abbrev pub TellsBuffer : (fields : Bool) → Buffer → Status → List Piece → Type 0
+TellsBuffer fields buffer status pieces =
+    ((status ≡ Done) × TellsSpelled fields buffer pieces) ⊎ TellsRefused buffer status pieces

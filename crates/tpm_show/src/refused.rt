@@ -1,0 +1,127 @@
+//! What is told of a buffer that is refused, or beyond this profile.
+
+ghost use Rattle.std.specs.Prelude.{◌≡◌, ◌++◌, IfOk, OnOk, flat_map};
+ghost use Rattle.tpm_show.specs.Library.{command_areas_told, response_areas_told};
+ghost use Rattle.tpm_show.specs.Refusals.{CommandBytes, ReplyBytes, code_in, head_told, is_buffer_beyond, refused_told};
+ghost use Rattle.tpm_show.specs.Refusals.{status_if};
+
+use crate::areas::{tell_areas, tell_reply_areas};
+use crate::beyond::is_beyond;
+use crate::capture_lines::Direction;
+use crate::command_names::command_of;
+use crate::frame_header::{FrameHeader, header_in};
+use crate::library::{CommandAreas, ResponseAreas, library_command, library_response};
+use crate::teller::Teller;
+use std::alloc::AllocError;
+use tpm_output::status::Status;
+use tpm_output::text::Pushed;
+use tpm_types::CommandCode;
+use tpm_wire::Refusal;
+
+/// Tells what the header says, of a reply to the command of this code.
+pub(crate) fn tell_head<T: Teller>(
+    teller: &mut T,
+    direction: Direction,
+    answered: Option<u32>,
+    header: Option<FrameHeader>,
+) -> Pushed
+    ensures { OnOk result (T.told teller.new
+        ≡ T.told teller.old ++ flat_map T.marks (head_told direction answered header)) }
+{
+    let Some(header) = &header else {
+        return Ok(());
+    };
+    match direction {
+        Direction::Command => teller.command_head(header),
+        Direction::Reply => teller.reply_head(answered, header),
+    }
+}
+
+/// The status of what is beyond this profile, or refused.
+pub(crate) fn status_if(beyond: bool) -> Status
+    ensures { result ≡ status_if beyond }
+{
+    if beyond {
+        Status::Done
+    } else {
+        Status::Refused
+    }
+}
+
+// ---- a command
+
+fn code_in(header: Option<FrameHeader>) -> u32
+    ensures { result ≡ code_in header }
+{
+    match header {
+        Some(header) => header.code,
+        None => 0,
+    }
+}
+
+fn tell_command_areas<T: Teller>(teller: &mut T, areas: &Option<CommandAreas<'_>>) -> Pushed
+    ensures { OnOk result (T.told teller.new
+        ≡ T.told teller.old ++ flat_map T.marks (command_areas_told areas.now)) }
+{
+    match areas {
+        Some(areas) => tell_areas(teller, areas.handles.as_slice(), areas, areas.params),
+        None => Ok(()),
+    }
+}
+
+/// Tells the fault of a command, and what is behind its header by the library's tables.
+#[tactic(auto, using(crate::proofs::Pieces::pieces))]
+pub(crate) fn tell_refused_command<T: Teller>(
+    teller: &mut T,
+    refusal: &Refusal,
+    bytes: &[u8],
+) -> Result<Status, AllocError>
+    ensures { IfOk result (λ status.
+        (status ≡ status_if (is_buffer_beyond (CommandBytes bytes.now) refusal.now))
+        × (T.told teller.new ≡ T.told teller.old
+        ++ flat_map T.marks (refused_told (CommandBytes bytes.now) refusal.now))) }
+{
+    let header = header_in(bytes);
+    let areas = library_command(bytes, header);
+    let beyond = areas.is_some() && is_beyond(Direction::Command, code_in(header), refusal, bytes);
+    teller.refusal(beyond, refusal)?;
+    tell_command_areas(teller, &areas)?;
+    Ok(status_if(beyond))
+}
+
+// ---- a response
+
+/// Tells what is behind the header of a response, where it is there.
+pub(crate) fn tell_response_areas<T: Teller>(
+    teller: &mut T,
+    areas: &Option<ResponseAreas<'_>>,
+) -> Pushed
+    ensures { OnOk result (T.told teller.new
+        ≡ T.told teller.old ++ flat_map T.marks (response_areas_told areas.now)) }
+{
+    match areas {
+        Some(areas) => tell_reply_areas(teller, areas.handles.as_slice(), areas.params, areas),
+        None => Ok(()),
+    }
+}
+
+/// Tells the fault of a response to this command, and what is behind its header by the library's tables.
+#[tactic(auto, using(crate::proofs::Pieces::pieces))]
+pub(crate) fn tell_refused_reply<T: Teller>(
+    teller: &mut T,
+    command: CommandCode,
+    refusal: &Refusal,
+    bytes: &[u8],
+) -> Result<Status, AllocError>
+    ensures { IfOk result (λ status.
+        (status ≡ status_if (is_buffer_beyond (ReplyBytes command bytes.now) refusal.now))
+        × (T.told teller.new ≡ T.told teller.old
+        ++ flat_map T.marks (refused_told (ReplyBytes command bytes.now) refusal.now))) }
+{
+    let code = command.number();
+    let areas = library_response(command_of(code), bytes, header_in(bytes));
+    let beyond = areas.is_some() && is_beyond(Direction::Reply, code, refusal, bytes);
+    teller.refusal(beyond, refusal)?;
+    tell_response_areas(teller, &areas)?;
+    Ok(status_if(beyond))
+}
