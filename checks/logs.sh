@@ -83,12 +83,27 @@ ran "the digests of records of a register" 0 events "$logs/said.log" --digests -
 cp "$logs/said.events" "$room/out.wanted"
 of_register
 ran "places and digests of records of a register" 0 events --places --register 7 --digests "$logs/said.log"
+cp "$logs/said.all" "$room/out.wanted"
+ran "the data of records with places and digests" 0 events "$logs/said.log" --data --places --digests
+cut -d ' ' -f 1-5,8- "$logs/said.all" >"$room/out.wanted"
+ran "the data of records" 0 events "$logs/said.log" --data
+of_register
+ran "the data of records of a register" 0 events "$logs/said.log" --register 7 --data
 cp "$logs/said.json" "$room/out.wanted"
-for words in --json '--json --places' '--digests --json'; do
+for words in --json '--json --places' '--digests --json' '--data --json'; do
     ran "objects have all that a record holds: $words" 0 events "$logs/said.log" $words
 done
 : >"$room/out.wanted"
-ran "the records of a register that there is none of" 0 events "$logs/said.log" --register 18446744073709551615
+ran "the records of a register that there is none of" 0 events "$logs/said.log" --register 23
+# Several registers, by a list in any order.
+awk '$2 == 4 || $2 == 7' "$logs/said.listed" >"$room/out.wanted"
+for list in 4,7 7,4,4 07,004; do
+    ran "the records of the registers $list" 0 events "$logs/said.log" --register "$list"
+done
+awk '$2 >= 4 && $2 <= 7' "$logs/said.listed" >"$room/out.wanted"
+ran "the records of the registers 4-7" 0 events "$logs/said.log" --register 4-7
+awk '$2 < 24' "$logs/said.listed" >"$room/out.wanted"
+ran "the records of all registers" 0 events "$logs/said.log" --register all
 for objects in "$logs"/*.json; do
     log=${objects%.json}
     cp "$objects" "$room/out.wanted"
@@ -120,14 +135,27 @@ name="lines are printable"
 if LC_ALL=C grep -q '[^ -~]' "$logs/said.listed"; then fail "$name" ""; else pass "$name"; fi
 
 while read -r log kind at; do
-    echo "log $kind at $at" >"$room/out.wanted"
+    echo "log $kind at $at" >"$room/fault"
+    cp "$room/fault" "$room/out.wanted"
     checked "$log is none" 1 "$logs/$log.log"
-    ran "$log has no records" 1 events "$logs/$log.log"
-    echo "{\"fault\":\"$kind\",\"at\":$at}" >"$room/out.wanted"
-    ran "the fault of $log is an object" 1 events "$logs/$log.log" --json
-    echo '{"ok":false}' >>"$room/out.wanted"
+    sed -n "s/^$log //p" "$logs/preceding.txt" | cat - "$room/fault" >"$room/out.wanted"
+    ran "the records of $log up to its fault" 1 events "$logs/$log.log"
+    echo "{\"fault\":\"$kind\",\"at\":$at}" >"$room/fault"
+    sed -n "s/^$log //p" "$logs/preceding_objects.txt" | cat - "$room/fault" >"$room/out.wanted"
+    ran "the objects of $log up to its fault" 1 events "$logs/$log.log" --json
+    { cat "$room/fault" && echo '{"ok":false}'; } >"$room/out.wanted"
     told "the fault of $log is an object of check" 1 "$logs/$log.log"
 done <"$logs/faults.txt"
+
+# Behind the last record are bytes that the firmware left as they were in flash memory: ff, and so no register.
+{ cat "$logs/said.log" && head -c 4096 /dev/zero | tr '\0' '\377'; } >"$room/filled"
+size=$(wc -c <"$logs/said.log" | tr -d ' ')
+{ cat "$logs/said.listed" && echo "log BadRegister at $size"; } >"$room/out.wanted"
+ran "the records before bytes that fill a log" 1 events "$room/filled"
+{ cat "$logs/said.json" && echo "{\"fault\":\"BadRegister\",\"at\":$size}"; } >"$room/out.wanted"
+ran "the objects before bytes that fill a log" 1 events "$room/filled" --json
+{ cat "$logs/said.register" && echo "log BadRegister at $size"; } >"$room/out.wanted"
+ran "the records of a register before bytes that fill a log" 1 events "$room/filled" --register 7
 
 for told in "$logs"/*.secure; do
     log=${told%.secure}
@@ -206,6 +234,99 @@ if python3 -c pass >"$room/out" 2>&1; then
         secure_unset sha256:7
         secure_twice sha256:0,7
     end
+
+    # Lists of allowed digests: what a log extends, and that beside a quote of each register that it extends.
+    # allows NAME LIST: what is said of $events' log beside this list and the quote of $named, as lines and as objects.
+    allows() {
+        whole=${events%.events}.log
+        case $2 in "$room/list") right=0 ;; *) right=1 ;; esac
+        of="the records of ${whole##*/} beside $1"
+        words="--attest $room/quote --nonce 6e6f --allow $2"
+        ./tpmtool check "$whole" --attest "$room/quote" --nonce 6e6f --any-selection >"$room/out.wanted" </dev/null
+        checks/logs/allowed.py told "$events" "$2" >>"$room/out.wanted"
+        checked "$of" $right "$whole" $words
+        sed 's/^selection not compared$/selection covers/' "$room/out.wanted" >"$room/covers"
+        mv "$room/covers" "$room/out.wanted"
+        checked "$of, and a selection" $right "$whole" $words --require "$named"
+        checks/quotes/told.py "$room/quote" matches any matches | sed '$d' >"$room/out.wanted"
+        checks/logs/allowed.py told "$events" "$2" json >>"$room/out.wanted"
+        case $right in 0) echo '{"ok":true}' ;; *) echo '{"ok":false}' ;; esac >>"$room/out.wanted"
+        told "$of, as objects" $right "$whole" $words
+        checks/quotes/told.py "$room/quote" differs any matches >"$room/out.wanted"
+        told "$of, for another nonce" 1 "$whole" --attest "$room/quote" --nonce 6e --allow "$2"
+        [ -e "${events%.events}.verdicts" ] || return 0
+        checks/quotes/told.py "$room/quote" matches any matches "${events%.events}.verdicts" >"$room/boot"
+        sed '$d' "$room/boot" >"$room/out.wanted"
+        checks/logs/allowed.py told "$events" "$2" json >>"$room/out.wanted"
+        case $right,$(tail -n 1 "$room/boot") in 0,*true*) ;; *) right=1 ;; esac
+        case $right in 0) echo '{"ok":true}' ;; *) echo '{"ok":false}' ;; esac >>"$room/out.wanted"
+        told "$of, and Secure Boot" $right "$whole" $words --secure-boot
+    }
+    for events in "$logs"/*.events; do
+        log=${events%.events}
+        checks/logs/allowed.py lists "$events" >"$room/list"
+        cp "$room/list" "$room/out.wanted"
+        checked "the digests that ${log##*/} extends" 0 "$log.log" --extends
+        [ -s "$room/list" ] || continue
+        named=$(checks/logs/allowed.py registers "$room/list")
+        checks/quotes/made.py "$log.registers" 6e6f "$named" >"$room/quote"
+        allows "its own digests" "$room/list"
+        # A digest of each register but its first is that of another register, and its first is alone.
+        awk '{ of = $1 " " $2 } !(of in first) { first[of] = $3; print of, "00" substr($3, 3), "other"; next }
+            { print $1, $2 == 0 ? 1 : 0, $3; print }' "$room/list" >"$room/others"
+        named=$(checks/logs/allowed.py registers "$room/others")
+        checks/quotes/made.py "$log.registers" 6e6f "$named" >"$room/quote"
+        allows "other digests" "$room/others"
+    done
+
+    # Records beside a quote that vouches for some: of logs in which the data, the types or further records are others
+    # than those that were quoted, and of the quotes of real logs.
+    list=sha1:1,8+sha256:0,1,4,7,8+sha384:1,7
+    checks/quotes/made.py "$logs/attested.registers" 6e6f "$list" >"$room/quote"
+    words="--attest $room/quote --nonce 6e6f --require $list"
+    for log in attested attested_changed attested_relabelled attested_added; do
+        { checks/quotes/told.py --lines "$room/quote" matches covers matches && cat "$logs/$log.vouched"; } \
+            >"$room/out.wanted"
+        ran "the records of $log beside a quote" 0 events "$logs/$log.log" $words
+        { checks/quotes/told.py "$room/quote" matches covers matches && cat "$logs/$log.vouched_objects"; } \
+            >"$room/out.wanted"
+        ran "the objects of $log beside a quote" 0 events "$logs/$log.log" $words --json
+    done
+    log=$logs/attested
+    { checks/quotes/told.py --lines "$room/quote" matches covers matches && awk '$2 == 8' "$log.vouched"; } \
+        >"$room/out.wanted"
+    ran "the records of a register beside a quote" 0 events "$log.log" $words --register 8
+    { checks/quotes/told.py --lines "$room/quote" any any matches && awk '$2 == 8' "$log.vouched"; } >"$room/out.wanted"
+    ran "the records of a register beside a quote of any nonce and selection" 0 events "$log.log" --register 8 \
+        --attest "$room/quote" --any-nonce --any-selection
+    # unasked NAME LOG NONCE SELECTION QUOTE WORD..: records are not told beside a quote with these verdicts.
+    unasked() {
+        case=$1 replayed=$2 verdicts="$3:$4:$5"
+        shift 5
+        (IFS=: && checks/quotes/told.py --lines "$room/quote" $verdicts) >"$room/out.wanted"
+        ran "no records beside a quote $case" 1 events "$replayed" --attest "$room/quote" "$@"
+        (IFS=: && checks/quotes/told.py "$room/quote" $verdicts) >"$room/out.wanted"
+        ran "no objects of records beside a quote $case" 1 events "$replayed" --attest "$room/quote" "$@" --json
+    }
+    unasked "for another nonce" "$log.log" differs covers matches --nonce 6e --require "$list"
+    unasked "without a nonce" "$log.log" "not compared" covers matches --require "$list"
+    unasked "that lacks a register" "$log.log" matches "lacks sha256 9" matches --nonce 6e6f --require sha256:0,9
+    unasked "of which none is required" "$log.log" matches "not compared" matches --nonce 6e6f
+    unasked "of another log" "$logs/said.log" matches covers differs --nonce 6e6f --require "$list"
+    printf '%s\n' 'refused 084 at 0' >"$room/out.wanted"
+    ran "no records beside what is no quote" 1 events "$log.log" --attest "$logs/worked.log" --nonce 6e6f
+    echo 'log Truncated at 211' >"$room/out.wanted"
+    ran "no records of what is no log beside a quote" 1 events "$logs/cut_by_a_byte.log" $words
+    while read -r quote log hash nonce list; do
+        log=checks/quotes/$log signed=checks/quotes/$quote.msg
+        words="--attest $signed --nonce $nonce --require $list --hash $hash"
+        { checks/quotes/told.py --lines "$signed" matches covers matches &&
+            python3 "$logs/list_events.py" "$log" "$list"; } >"$room/out.wanted"
+        ran "the records of ${log##*/} beside the quote $quote" 0 events "$log" $words --digests --places
+        { checks/quotes/told.py "$signed" matches covers matches &&
+            python3 "$logs/list_events.py" "$log" "$list" --json; } >"$room/out.wanted"
+        ran "the objects of ${log##*/} beside the quote $quote" 0 events "$log" $words --json
+    done <checks/quotes/cases.txt
 else
     skip "quotes as objects" "python3 is not there"
 fi

@@ -84,6 +84,8 @@ else
     signed='--attest checks/quotes/not-measured.msg --nonce c0ffee0000000000000000000000000000000000'
     refuses "a quote as it was signed with what is required" check checks/logs/worked.log $signed --require sha256:10
     refuses "a quote as it was signed that lacks what is required" check checks/logs/worked.log $signed --require sha256:7
+    refuses "records beside a quote" events checks/logs/worked.log $signed --require sha256:10
+    refuses "no records beside a quote that lacks what is required" events checks/logs/worked.log $signed --require sha256:7
     refuses "a list of no registers" check checks/logs/worked.log $signed --require no
     refuses "a list of registers without a quote as it was signed" check checks/logs/worked.log --require sha256:7
     refuses "a hash without a quote" check checks/logs/worked.log --hash sha1

@@ -73,6 +73,20 @@ static void print_unit(int unit) {
         printf("\\u%04x", (unsigned)unit);
 }
 
+/* A character of UTF-8 by its units of UTF-16, and how many bytes it has. */
+static size_t print_character(const uint8_t *text) {
+    size_t behind = *text < 0x80 ? 0 : *text < 0xe0 ? 1 : *text < 0xf0 ? 2 : 3;
+    int number = behind == 0 ? *text : *text & 0x3f >> behind;
+    for (size_t i = 1; i <= behind; i++)
+        number = number << 6 | (text[i] & 0x3f);
+    if (number >= 0x10000) {
+        print_unit(0xd7c0 + (number >> 10));
+        number = 0xdc00 + (number & 0x3ff);
+    }
+    print_unit(number);
+    return behind + 1;
+}
+
 static void print_text(const struct tpm_log_event *event) {
     const uint8_t *data = bytes + event->data.at;
     struct tpm_part text;
@@ -80,8 +94,8 @@ static void print_text(const struct tpm_log_event *event) {
     if (said == TPM_LOG_DONE)
         return;
     printf(" text ");
-    for (size_t i = text.at; said == TPM_TEXT && i < text.at + text.len; i++)
-        print_unit(data[i]);
+    for (size_t i = text.at; said == TPM_TEXT && i < text.at + text.len;)
+        i += print_character(data + i);
     for (size_t i = text.at; said == TPM_TEXT_UTF16 && i < text.at + text.len; i += 2)
         print_unit(data[i] | data[i + 1] << 8);
 }

@@ -318,14 +318,15 @@ uint32_t tpm_log_event(const uint8_t *log, size_t len, struct tpm_log_place *pla
  * Firmware Profile ("Event Types") names no such type. */
 size_t tpm_event_type_name(uint32_t kind, uint8_t *out, size_t out_len);
 
-/* A text was told: in ASCII, or in UTF-16 with the less significant byte of each unit first. */
+/* A text was told: in UTF-8, or in UTF-16 with the less significant byte of each unit first. */
 #define TPM_TEXT ((uint32_t)34)
 #define TPM_TEXT_UTF16 ((uint32_t)35)
 
-/* Tells the text that these bytes, the data of a record of this type, are, all of them but for a zero that ends it. TPM_TEXT: it is
- * in `view`, and the type is EV_POST_CODE, EV_ACTION, EV_IPL or EV_EFI_ACTION: printable ASCII, a character or more. TPM_TEXT_UTF16:
- * it is in `view`, and the type is EV_S_CRTM_VERSION: a unit or more, and whether they are characters is not judged. TPM_LOG_DONE:
- * they are none, or the type is another; `view` stays as it was. */
+/* Tells the text that these bytes, the data of a record of this type, are, all of them but for zeros that end it. TPM_TEXT: it is in
+ * `view`, and the type is EV_POST_CODE, EV_ACTION, EV_IPL or EV_EFI_ACTION: UTF-8, a character or more, and of ASCII printable ones,
+ * tabs, line feeds and carriage returns alone. TPM_TEXT_UTF16: it is in `view`, and the type is EV_IPL, with such characters of ASCII, or
+ * EV_S_CRTM_VERSION, where the units are not judged, and 16 bytes that are no such text are a GUID. TPM_LOG_DONE: they are none, or
+ * the type is another; `view` stays as it was. */
 uint32_t tpm_log_text(uint32_t kind, const uint8_t *bytes, size_t len, struct tpm_part *view);
 
 /* A variable of the firmware, by its parts in the data of a record: the vendor's GUID, 16 bytes as they lie in memory; the name in
@@ -375,7 +376,7 @@ struct tpm_secure_boot {
 #define TPM_SECURE_BOOT_UNSET ((uint32_t)50)         /* SecureBoot had no byte */
 #define TPM_SECURE_BOOT_NO_ROOM ((uint32_t)51)       /* there are more authorities than places for them */
 #define TPM_SECURE_BOOT_NO_BANK ((uint32_t)18)       /* no bank has this hash */
-#define TPM_SECURE_BOOT_NOT_MEASURED ((uint32_t)64)  /* no digest of the bank is the hash of the record's data */
+#define TPM_SECURE_BOOT_NOT_MEASURED ((uint32_t)64)  /* no digest of the bank is of the record's data, or of an authority's but the last byte */
 #define TPM_SECURE_BOOT_OTHER_TYPE ((uint32_t)65)    /* before the separator, no variable, action of the profile or separator */
 #define TPM_SECURE_BOOT_NO_VARIABLE ((uint32_t)66)   /* the data are no UEFI_VARIABLE_DATA to their end */
 #define TPM_SECURE_BOOT_TWICE ((uint32_t)67)         /* SecureBoot, PK, KEK, db, dbx, dbt or dbr for the second time */

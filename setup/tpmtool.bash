@@ -10,9 +10,10 @@ _tpmtool() {
     else
         case $verb,$before in
         show,--reply) words=$commands ;;
-        show,--file | show,--pcap | show,--nv | check,--registers | check,--attest) files=yes ;;
-        check,--hash) words='sha1 sha256 sha384' ;;
+        show,--file | show,--pcap | show,--nv | check,--registers | check,--attest | check,--allow | events,--attest) files=yes ;;
+        check,--hash | events,--hash) words='sha1 sha256 sha384' ;;
         show,--port | run,--owner | run,--greatest | check,--quote | check,--nonce | check,--require | check,--signer | events,--register) ;;
+        events,--nonce | events,--require | events,--signer) ;;
         *)
             case $verb,$now in
             show,-*) words='--reply --fields --file --binary --json --pcap --port --nv --help' ;;
@@ -21,8 +22,9 @@ _tpmtool() {
             build,*) words=$commands ;;
             run,-*) words='--owner --greatest --help' ;;
             check,-*) words='--registers --quote --attest --nonce --any-nonce --require --any-selection --signer --hash
-                --secure-boot --any-state --json --help' ;;
-            events,-*) words='--register --places --digests --json --help' ;;
+                --allow --secure-boot --any-state --extends --json --help' ;;
+            events,-*) words='--register --places --digests --data --attest --nonce --any-nonce --require --any-selection
+                --signer --hash --json --help' ;;
             check,* | events,*) files=yes ;;
             esac
             ;;

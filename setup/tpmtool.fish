@@ -23,15 +23,18 @@ complete -c tpmtool -n '__fish_seen_subcommand_from explain' -l decimal
 complete -c tpmtool -n '__fish_seen_subcommand_from check events' -F
 complete -c tpmtool -n '__fish_seen_subcommand_from check' -l registers -r -F
 complete -c tpmtool -n '__fish_seen_subcommand_from check' -l quote -x
-complete -c tpmtool -n '__fish_seen_subcommand_from check' -l attest -r -F
-complete -c tpmtool -n '__fish_seen_subcommand_from check' -l nonce -x
-complete -c tpmtool -n '__fish_seen_subcommand_from check' -l any-nonce
-complete -c tpmtool -n '__fish_seen_subcommand_from check' -l require -x
-complete -c tpmtool -n '__fish_seen_subcommand_from check' -l any-selection
-complete -c tpmtool -n '__fish_seen_subcommand_from check' -l signer -x
-complete -c tpmtool -n '__fish_seen_subcommand_from check' -l hash -x -a 'sha1 sha256 sha384'
+complete -c tpmtool -n '__fish_seen_subcommand_from check events' -l attest -r -F
+complete -c tpmtool -n '__fish_seen_subcommand_from check events' -l nonce -x
+complete -c tpmtool -n '__fish_seen_subcommand_from check events' -l any-nonce
+complete -c tpmtool -n '__fish_seen_subcommand_from check events' -l require -x
+complete -c tpmtool -n '__fish_seen_subcommand_from check events' -l any-selection
+complete -c tpmtool -n '__fish_seen_subcommand_from check events' -l signer -x
+complete -c tpmtool -n '__fish_seen_subcommand_from check events' -l hash -x -a 'sha1 sha256 sha384'
+complete -c tpmtool -n '__fish_seen_subcommand_from check' -l allow -r -F
 complete -c tpmtool -n '__fish_seen_subcommand_from check' -l secure-boot
 complete -c tpmtool -n '__fish_seen_subcommand_from check' -l any-state
+complete -c tpmtool -n '__fish_seen_subcommand_from check' -l extends
 complete -c tpmtool -n '__fish_seen_subcommand_from events' -l register -x
 complete -c tpmtool -n '__fish_seen_subcommand_from events' -l places
 complete -c tpmtool -n '__fish_seen_subcommand_from events' -l digests
+complete -c tpmtool -n '__fish_seen_subcommand_from events' -l data

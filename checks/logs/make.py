@@ -183,6 +183,37 @@ def measured():
     return log
 
 
+def attested(shown=lambda event: event, kinds=None, added=False):
+    """Each part of the data that may be measured, in registers of which some are quoted. What stands in the log may be
+    other data or another type than what was measured, and records may be added in registers that are not quoted."""
+    log = Log(THREE)
+
+    def record(register, kind, event, data=None, **of_record):
+        data = event if data is None else data
+        log.record(register, (kinds or {}).get(kind, kind), shown(event), data, **of_record)
+
+    def add(register, kind, event, **of_record):
+        if added:
+            log.record(register, kind, event, **of_record)
+
+    log.locality(3)
+    order, text = variable("BootOrder", b"\1\0\0\0"), b"linux /vmlinuz root=/dev/vda1"
+    record(0, CRTM_VERSION, "1.0\0".encode("utf-16-le"))
+    log.zeros(0xFFFFFFFF, b"SP800-155 Event\0" + bytes(20))
+    record(1, VARIABLE_BOOT, order, b"\1\0\0\0")
+    record(1, VARIABLE_BOOT, order, {0x0004: order, 0x000B: b"\1\0\0\0", 0x000C: b"something else"})
+    add(5, GPT, b"EFI PART")
+    record(7, AUTHORITY, variable("db", b"an entry") + b"\n", variable("db", b"an entry"))
+    add(7, NO_ACTION, b"")
+    record(4, SERVICES, loaded(file("\\EFI\\BOOT\\BOOTX64.EFI") + END), b"boot loader")
+    record(8, IPL, b"grub_cmd: " + text + b"\0", text)
+    record(8, IPL, b"grub_cmd: " + text, text, algorithms=[0x000B])
+    add(8, IPL, b"grub_cmd: " + text, algorithms=[0x000C])
+    record(9, IPL, b"/vmlinuz\0", b"kernel")
+    add(9, IPL, b"kernel")
+    return log
+
+
 def node(kind, subtype, data=b""):
     """A node of a device path (UEFI Specification, "Generic Device Path Structures")."""
     return struct.pack("<BBH", kind, subtype, 4 + len(data)) + data
@@ -616,6 +647,14 @@ def accepted():
     devices().write("devices")
     boot_variables().write("boot_variables")
     facts().write("facts")
+
+    # The registers that are quoted of the first have the same values in all.
+    attested().write("attested")
+    others = {b"an entry": b"no entry", b"/vmlinuz": b"/vmlinux", b"1\0.\0": b"2\0.\0", b"\1\0\0\0": b"\2\0\0\0"}
+    attested(lambda event: next((event.replace(*of) for of in others.items() if of[0] in event), event)).write(
+        "attested_changed")
+    attested(kinds={CRTM_VERSION: POST_CODE, VARIABLE_BOOT: TAG, IPL: OLDER_ACTION}).write("attested_relabelled")
+    attested(added=True).write("attested_added")
 
     # SHA-512 alone: no bank is extended
     Log([0x000D]).record(0, SEPARATOR, bytes(4)).write("no_bank")

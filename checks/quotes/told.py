@@ -1,6 +1,8 @@
 #!/usr/bin/env python3
 """told.py FILE NONCE SELECTION QUOTE [VERDICTS]: what `tpmtool check LOG --attest FILE --json` writes, by its verdicts.
 
+    told.py --lines FILE NONCE SELECTION QUOTE    what it writes without --json
+
 The nonce and the selection may be `any`: they are not compared, as it was asked for. With a file of the verdicts on
 Secure Boot, as `check LOG --secure-boot --json` writes them, those that are told of the banks whose register 7 is
 selected come behind a quote that is the one asked for.
@@ -52,7 +54,20 @@ def told_of_boot(selections, path):
     return [verdicts[bank] for bank in banks] or [{"secure_boot": "unknown", "fault": "no bank"}]
 
 
-def main(path, nonce, covered, quote, verdicts=None):
+def lines(told):
+    """The lines of a quote and its verdicts."""
+    said = told["attest"]
+    for name in ("signer", "nonce", "clock", "resets", "restarts"):
+        print(name, "-" if said[name] == "" else said[name])
+    print("safe", "yes" if said["safe"] else "no")
+    print("firmware", said["firmware"])
+    print("selection", *(word for entry in said["selection"] for word in (entry["bank"], *entry["registers"])))
+    for name in ("nonce", "selection", "quote"):
+        lacks = told["lacks"].values() if name == "selection" and "lacks" in told else ()
+        print(name, told[name], *lacks)
+
+
+def told_of(path, nonce, covered, quote):
     with open(path, "rb") as file:
         told = {"attest": attest(file.read()), "nonce": nonce.replace("any", "not compared")}
     words = covered.split()
@@ -60,6 +75,11 @@ def main(path, nonce, covered, quote, verdicts=None):
     if words[0] == "lacks":
         told["lacks"] = {"bank": words[1], "register": int(words[2])}
     told["quote"] = quote
+    return told
+
+
+def main(path, nonce, covered, quote, verdicts=None):
+    told = told_of(path, nonce, covered, quote)
     right = nonce in ("matches", "any") and covered in ("covers", "any") and quote == "matches"
     boots = told_of_boot(told["attest"]["selection"], verdicts) if verdicts and right else []
     right = right and all(boot["secure_boot"] == "on" for boot in boots)
@@ -68,4 +88,7 @@ def main(path, nonce, covered, quote, verdicts=None):
 
 
 if __name__ == "__main__":
-    main(*sys.argv[1:])
+    if sys.argv[1] == "--lines":
+        lines(told_of(*sys.argv[2:]))
+    else:
+        main(*sys.argv[1:])

@@ -88,15 +88,10 @@ class Variables(unittest.TestCase):
 
 def said():
     """What the lists beside the logs say of records: of each log the names of their types, their places, and which data
-    are text.
-
-    tags.events is left out, which has text in UTF-16: `text` tells none.
-    """
+    are text."""
     for path in sorted((CHECKS / "logs").glob("*.events")):
-        if path.stem == "tags":
-            continue
         lines = [line.split(" ", 7) for line in path.read_text().splitlines() if not line.startswith("log ")]
-        yield path.with_suffix(".log"), [(line[2], line[5], line[7]) for line in lines]
+        yield path.with_suffix(".log"), [(line[2], line[5], "".join(line[7:])) for line in lines]
 
 
 class Texts(unittest.TestCase):
@@ -107,7 +102,10 @@ class Texts(unittest.TestCase):
             self.assertEqual(found, [(name, place) for name, place, _ in wanted], path)
             for event, (_, _, words) in zip(events, wanted):
                 told = json.loads(f'"{words[5:]}"') if words.startswith("text ") else None
-                self.assertEqual(v.text(event), told, path)
+                found = v.text(event)
+                # Of text in UTF-8 beyond ASCII the list has its size.
+                if not (words.startswith("size ") and found and not found.isascii()):
+                    self.assertEqual(found, told, path)
 
     def test_a_type_that_the_profile_does_not_name(self):
         for kind in 0x13, 0x8000000E, 0xFFFFFFFF, 1 << 32, -1:

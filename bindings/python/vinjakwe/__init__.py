@@ -540,15 +540,15 @@ def event_type_name(type: int) -> str | None:
 
 
 def text(event: Event) -> str | None:
-    """The text that the data of a record are, without a zero that ends it: printable ASCII of EV_POST_CODE, EV_ACTION,
-    EV_IPL and EV_EFI_ACTION, or UTF-16 of EV_S_CRTM_VERSION, of which units that are no UTF-16 stay as they are. None
+    """The text that the data of a record are, without zeros that end it: UTF-8 of EV_POST_CODE, EV_ACTION, EV_IPL and
+    EV_EFI_ACTION, or UTF-16 of EV_IPL and EV_S_CRTM_VERSION, of which units that are no UTF-16 stay as they are. None
     where they are no text, or the type is another."""
     view = _Part()
     said = _lend(_library.tpm_log_text, event.type, (event.data,), byref(view))
     if said not in (_TEXT, _TEXT_UTF16):
         return None
     with memoryview(event.data) as data:
-        return _part(data, view).decode(*("ascii",) if said == _TEXT else ("utf-16-le", "surrogatepass"))
+        return _part(data, view).decode(*("utf-8",) if said == _TEXT else ("utf-16-le", "surrogatepass"))
 
 
 def measured(event: Event) -> dict[str, str]:

@@ -1,7 +1,7 @@
 -- What was found in the words, by the getters and by the matches.
-use Rattle.std.proofs.Common.{◌≡◌, ℕ, ap, sym, subst, refl, ◌∙◌, Bool, true, false, inl, inr, codes, List, [], map, ◌⊎◌}
-use Rattle.std.proofs.Common.{Option, Some, None, option_map, unwrap_or, ◌||◌}
-use Rattle.std.specs.Prelude.{Box, Result, Ok, Err, IfOk, IfErr, MatchResult, is_some}
+use Rattle.std.proofs.Common.{◌≡◌, ap, sym, subst, refl, ◌∙◌, Bool, true, false, inl, inr, codes, List, [], map, ◌⊎◌}
+use Rattle.std.proofs.Common.{Option, Some, None, option_map}
+use Rattle.std.specs.Prelude.{Box, Result, Ok, Err, IfOk, IfErr, MatchResult}
 use Rattle.std.specs.Box.{box_value}
 use Rattle.std.specs.Option.{MatchOption}
 use Rattle.std.specs.Str.{bytes_eq}
@@ -20,8 +20,8 @@ use Rattle.clap.specs.Kinds.{IsAmong, Kinds}
 use Rattle.clap.specs.Takes.{takes}
 use Rattle.clap.proofs.OnLiterals.{clap_on_literals}
 use Rattle.clap.proofs.WalkLemmas.{first_value-rows}
-use Rattle.tpm_names.specs.Numbers.{IsDecimal, IsPort}
-use Rattle.tpm_args.specs.Owner.{IsOwner}
+use Rattle.tpm_names.specs.Selections.{IsRegisterList}
+use Rattle.tpm_names.specs.declared.selection.RegisterList.{RegisterList}
 use Rattle.tpm_options.specs.declared.CheckOptions.{CheckOptions}
 use Rattle.tpm_args.specs.declared.task.Task.TheVariants.{Show, ShowCapture, ShowPackets, ShowNv, Build, Run, Explain}
 use Rattle.tpm_args.specs.declared.task.Task.TheVariants.{ExplainName, Check, Events}
@@ -29,8 +29,8 @@ use Rattle.tpm_args.specs.declared.task.Task.{Task}
 use Rattle.tpm_args.specs.declared.stop.Stop.TheVariants.{Help, Usage, Memory}
 use Rattle.tpm_args.specs.declared.stop.Stop.{Stop}
 use Rattle.tpm_words.specs.Program.{program_app}
-use Rattle.tpm_args.specs.Task.{Asks, AsksNothing, AsksNothingWith, AsksWith, IsCode, IsRegister, Replies}
-use Rattle.tpm_args.specs.Task.{is_given, AreOptions, IsName, IsInput}
+use Rattle.tpm_args.specs.Task.{Asks, AsksNothing, AsksNothingWith, AreListed, AsksWith}
+use Rattle.tpm_args.specs.Task.{AreOptions}
 use Rattle.tpm_args.specs.Stop.{IsHelp, IsMemoryOr, Refuses, StopsFor}
 
 some : {A : Type 0} (x y : A) → (let a : Option A = Some x in a) ≡ Some y → x ≡ y
@@ -54,7 +54,24 @@ not_asked value none (Build code handles sessions parameters) h = absurd (other 
 not_asked value none (Run owner greatest) h = absurd (other (codes "run") refl h.0)
 not_asked value none (Explain code) h = absurd (other (codes "explain") refl h.0)
 not_asked value none (ExplainName word) h = absurd (other (codes "explain") refl h.0)
-not_asked value none (Events log register places digests json) h = absurd (other (codes "events") refl h.0)
+not_asked value none (Events log registers places digests event-data json attest options) h = absurd (other (codes "events") refl h.0)
+
+-- The name of `events` is no other one.
+other_than_events : (name : Text) → bytes_eq name (codes "events") ≡ false → codes "events" ≡ name → ⊥
+other_than_events name differs e = opposite_ends (ap (λ (x : Text). bytes_eq x (codes "events")) e ∙ differs)
+
+-- No task of `events` has them either.
+pub not_listed : (value : Text → Option Text) → ((options : CheckOptions) → AreOptions value options → ⊥) → AsksNothingWith (codes "events") value
+not_listed value none (Events log registers places digests event-data json attest options) h = none options h.1
+not_listed value none (Check files options) h = absurd (other_than_events (codes "check") refl h.0)
+not_listed value none (Show reply fields hex) h = absurd (other_than_events (codes "show") refl h.0)
+not_listed value none (ShowCapture file binary fields json) h = absurd (other_than_events (codes "show") refl h.0)
+not_listed value none (ShowPackets file port fields json) h = absurd (other_than_events (codes "show") refl h.0)
+not_listed value none (ShowNv file) h = absurd (other_than_events (codes "show") refl h.0)
+not_listed value none (Build code handles sessions parameters) h = absurd (other_than_events (codes "build") refl h.0)
+not_listed value none (Run owner greatest) h = absurd (other_than_events (codes "run") refl h.0)
+not_listed value none (Explain code) h = absurd (other_than_events (codes "explain") refl h.0)
+not_listed value none (ExplainName word) h = absurd (other_than_events (codes "explain") refl h.0)
 
 -- the same task, by values that agree
 agrees : (name : Text) (v w : Text → Option Text) → ((id : Text) → v id ≡ w id) → (t : Task) → AsksWith name v t → AsksWith name w t
@@ -67,7 +84,7 @@ agrees name v w same (Run owner greatest) h = simp same at h
 agrees name v w same (Explain code) h = simp same at h
 agrees name v w same (ExplainName word) h = simp same at h
 agrees name v w same (Check files options) h = simp same at h
-agrees name v w same (Events log register places digests json) h = simp same at h
+agrees name v w same (Events log registers places digests event-data json attest options) h = simp same at h
 
 met : (o : Option (Text × List Row)) (name : Text) (f : Found) (t : Task) → option_map
     (λ (p : Text × List Row). p.0) o ≡ Some name → option_map (λ (p : Text × List Row). p.1) o ≡ Some (rows_of f)
@@ -194,10 +211,11 @@ stops words kind (Usage text) passes fails h =
     ((λ taken. absurd (h.2 (passes taken))), inl (kind, among kind (fault_of program_app words) h.2 fails, h))
 stops words kind Memory passes fails h = tt
 
--- ---- a register
+-- ---- a list of registers
 
--- A text that is no number is no register's.
-pub no_register : (given : Option Text) (text : Text) → given ≡ Some text → ((n : ℕ) → IsDecimal text n → ⊥) → (r : Option ℕ) → IsRegister given r → ⊥
-no_register None text is none r h = let z : ⊥ = cc in z
-no_register (Some t) text is none None h = h
-no_register (Some t) text is none (Some n) h = none n (subst (λ (x : Text). IsDecimal x n) (some t text is) h)
+-- A text that lists none is no list that is given.
+pub no_list : (given : Option Text) (text : Text) → given ≡ Some text → ((list : RegisterList) → IsRegisterList text list → ⊥)
+    → (r : Option RegisterList) → AreListed given r → ⊥
+no_list None text is none r h = let z : ⊥ = cc in z
+no_list (Some t) text is none None h = h
+no_list (Some t) text is none (Some list) h = none list (subst (λ (x : Text). IsRegisterList x list) (some t text is) h)

@@ -13,7 +13,8 @@ use Rattle.tpm_options.specs.declared.CheckOptions.{CheckOptions}
 use Rattle.tpm_args.specs.Names.{command_of_name, is_name}
 use Rattle.tpm_names.specs.Numbers.{IsDecimal, IsHexadecimal, IsPort, IsShortDecimal}
 use Rattle.tpm_args.specs.Owner.{IsOwner, bytes_in}
-use Rattle.tpm_names.specs.Selections.{AreSelections}
+use Rattle.tpm_names.specs.Selections.{AreSelections, IsRegisterList}
+use Rattle.tpm_names.specs.declared.selection.RegisterList.{RegisterList}
 use Rattle.tpm_args.specs.declared.task.Task.TheVariants.{Show, ShowCapture, ShowPackets, ShowNv, Build, Run, Explain}
 use Rattle.tpm_args.specs.declared.task.Task.TheVariants.{ExplainName, Check, Events}
 use Rattle.tpm_args.specs.declared.task.Task.{Task}
@@ -52,11 +53,10 @@ IsName false (Some text) name =
 abbrev pub IsHash : Text → Alg → Type 0
 IsHash text hash = text ≡ alg_name hash
 
--- a register by its number, where the option is given
-abbrev pub IsRegister : Option Text → Option ℕ → Type 0
-IsRegister None register = register ≡ None
-IsRegister (Some text) None = ⊥
-IsRegister (Some text) (Some register) = IsDecimal text register
+-- registers by their list, where the option is given
+abbrev pub AreListed : Option Text → Option RegisterList → Type 0
+AreListed None registers = registers ≡ None
+AreListed (Some text) registers = IsSomeAnd registers (IsRegisterList text)
 
 -- The one is given only where the other is.
 abbrev pub IsWith : Option Text → Option Text → Type 0
@@ -90,22 +90,39 @@ AreFiles value f =
     (value (codes "LOG") ≡ Some f.log.now)
     × (value (codes "registers") ≡ option_map (λ r. r.now) f.registers)
     × (value (codes "attest") ≡ option_map (λ a. a.now) f.attest)
+    × (value (codes "allow") ≡ option_map (λ a. a.now) f.allow)
 
 -- A flag is not given, or this holds.
 abbrev pub goes_with : (flag holds : Bool) → Bool
 goes_with flag holds = not flag || holds
 
+-- Neither a list of registers nor the information of a quote is given.
+abbrev pub has_neither : (Text → Option Text) → Bool
+has_neither value = not (is_some (value (codes "registers"))) && not (is_some (value (codes "quote")))
+
+-- None of these is, nor is a quote as it was signed, Secure Boot or JSON asked for.
+abbrev pub is_alone : (Text → Option Text) → Bool
+is_alone value =
+    ((has_neither value && not (is_some (value (codes "attest")))) && not (is_given (value (codes "secure-boot"))))
+    && not (is_given (value (codes "json")))
+
 -- Secure Boot is asked for beside neither a list of registers nor the information of a quote, and any state only of it;
 -- any nonce and any selection only of a quote as it was signed, beside no nonce and no list.
 abbrev pub GoTogether : (Text → Option Text) → Type 0
 GoTogether value =
-    (goes_with (is_given (value (codes "secure-boot")))
-    (not (is_some (value (codes "registers"))) && not (is_some (value (codes "quote")))) ≡ true)
+    (goes_with (is_given (value (codes "secure-boot"))) (has_neither value) ≡ true)
     × (goes_with (is_given (value (codes "any-state"))) (is_given (value (codes "secure-boot"))) ≡ true)
     × (goes_with (is_given (value (codes "any-nonce")))
     (is_some (value (codes "attest")) && not (is_some (value (codes "nonce")))) ≡ true)
     × (goes_with (is_given (value (codes "any-selection")))
     (is_some (value (codes "attest")) && not (is_some (value (codes "require")))) ≡ true)
+
+-- A list of allowed digests is given with a quote as it was signed, beside neither of the former; and what a log
+-- extends is asked for alone.
+abbrev pub DigestsGoTogether : (Text → Option Text) → Type 0
+DigestsGoTogether value =
+    (goes_with (is_some (value (codes "allow"))) (is_some (value (codes "attest")) && has_neither value) ≡ true)
+    × (goes_with (is_given (value (codes "extends"))) (is_alone value) ≡ true)
 
 -- what is expected of quotes: a nonce, a list of registers and a signer go with a quote as it was signed, and a hash
 -- with it or with the information of a quote
@@ -117,15 +134,18 @@ AreExpected value o =
     × IsHashIf (value (codes "hash")) o.hash
     × IsWithEither (value (codes "hash")) (value (codes "quote")) (value (codes "attest"))
 
+-- A list of allowed digests names the registers that a quote has to select, so any others do.
 abbrev pub AreOptions : (Text → Option Text) → CheckOptions → Type 0
 AreOptions value o =
     GoTogether value
+    × DigestsGoTogether value
     × AreExpected value o
     × (o.any_nonce ≡ is_given (value (codes "any-nonce")))
-    × (o.any_selection ≡ is_given (value (codes "any-selection")))
+    × (o.any_selection ≡ (is_given (value (codes "any-selection")) || is_some (value (codes "allow"))))
     × (value (codes "quote") ≡ option_map (λ q. q.now) o.quote)
     × (o.secure_boot ≡ is_given (value (codes "secure-boot")))
     × (o.any_state ≡ is_given (value (codes "any-state")))
+    × (o.extends ≡ is_given (value (codes "extends")))
     × (o.json ≡ is_given (value (codes "json")))
 
 -- standard input, by the word `-`, or a file
@@ -182,11 +202,13 @@ AsksWith name value (ExplainName word) =
     (name ≡ codes "explain") × IsName (is_given (value (codes "decimal"))) (value (codes "CODE")) word.now
 AsksWith name value (Check files options) =
     (name ≡ codes "check") × AreFiles value files × AreOptions value options
-AsksWith name value (Events log register places digests json) =
-    (name ≡ codes "events")
+AsksWith name value (Events log registers places digests event-data json attest options) =
+    (name ≡ codes "events") × AreOptions value options
+    × (value (codes "attest") ≡ option_map (λ a. a.now) attest)
     × (value (codes "LOG") ≡ Some log.now)
-    × IsRegister (value (codes "register")) register × (places ≡ is_given (value (codes "places")))
-    × (digests ≡ is_given (value (codes "digests"))) × (json ≡ is_given (value (codes "json")))
+    × AreListed (value (codes "register")) registers × (places ≡ is_given (value (codes "places")))
+    × (digests ≡ is_given (value (codes "digests"))) × (event-data ≡ is_given (value (codes "data")))
+    × (json ≡ is_given (value (codes "json")))
 
 -- There is no such task.
 abbrev pub AsksNothingWith : Text → (Text → Option Text) → Type 0

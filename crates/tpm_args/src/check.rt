@@ -1,6 +1,6 @@
-//! The words of the subcommand `check`.
+//! The words of the subcommand `check`, of which those on a quote as it was signed are those of `events`, too.
 
-ghost use Rattle.std.specs.Prelude.{◌≡◌, ◌&&◌, ℕ, Option, List, MatchOption, MatchResult, codes, false, is_some};
+ghost use Rattle.std.specs.Prelude.{◌≡◌, ◌&&◌, ◌||◌, ℕ, Option, List, MatchOption, MatchResult, codes, false, is_some};
 ghost use Rattle.std.specs.Prelude.{not, option_map, true};
 ghost use Rattle.std.specs.Global.{Vec as VecValue};
 ghost use Rattle.clap.specs.Words.{first_value, found_of};
@@ -8,7 +8,8 @@ ghost use Rattle.tpm_types.specs.declared.alg.Alg.{Alg as AlgValue};
 ghost use Rattle.tpm_types.specs.declared.tpms.Selection.{Selection as SelectionValue};
 ghost use Rattle.tpm_options.specs.declared.CheckOptions.{CheckOptions as CheckOptionsValue};
 ghost use Rattle.tpm_args.specs.Stop.{IsAsked, IsMemoryOr};
-ghost use Rattle.tpm_args.specs.Task.{AreBytes, AreOptions, GoTogether, IsHash, IsHashIf, goes_with};
+ghost use Rattle.tpm_args.specs.Task.{AreBytes, AreOptions, DigestsGoTogether, GoTogether, IsHash, IsHashIf};
+ghost use Rattle.tpm_args.specs.Task.{goes_with, has_neither, is_alone};
 ghost use Rattle.tpm_args.specs.Task.{IsWith, IsWithEither, Requires};
 
 use crate::bytes::bytes_in;
@@ -29,68 +30,80 @@ pub(crate) fn check_task<'a>(alloc: Global, words: &ArgMatches<'a>) -> Asked<'a>
     let Some(log) = words.get_str("LOG") else {
         return Ok(None);
     };
-    let options = options(alloc, words)?;
+    let options = options(alloc, Subcommand::Check, words)?;
     let files = CheckFiles {
         log,
         registers: words.get_str("registers"),
         attest: words.get_str("attest"),
+        allow: words.get_str("allow"),
     };
     Ok(Some(Task::Check { files, options }))
 }
 
-// What is asked of the files. A usage fault where the words are not in order.
-fn options<'a>(alloc: Global, words: &ArgMatches<'a>) -> Result<CheckOptions<'a>, Stop>
+/// What is asked of the files of this subcommand. A usage fault where the words are not in order.
+pub(crate) fn options<'a>(
+    alloc: Global,
+    of: Subcommand,
+    words: &ArgMatches<'a>,
+) -> Result<CheckOptions<'a>, Stop>
     ensures { MatchResult result
         (λ options. AreOptions (first_value (found_of words.now)) options)
         (IsMemoryOr ((options : CheckOptionsValue)
         → AreOptions (first_value (found_of words.now)) options → ⊥)) }
 {
-    check_flags(alloc, words)?;
+    check_flags(alloc, of, words)?;
+    check_digests(alloc, of, words)?;
     let attest = words.get_str("attest");
     let nonce = words.get_str("nonce");
-    with_attest(alloc, nonce, "--nonce <HEX>", attest)?;
-    let nonce = bytes(alloc, nonce, "--nonce <HEX>")?;
+    with_attest(alloc, of, nonce, "--nonce <HEX>", attest)?;
+    let nonce = bytes(alloc, of, nonce, "--nonce <HEX>")?;
     let list = words.get_str("require");
-    with_attest(alloc, list, "--require <LIST>", attest)?;
-    let required = required(alloc, list)?;
+    with_attest(alloc, of, list, "--require <LIST>", attest)?;
+    let required = required(alloc, of, list)?;
     let signer = words.get_str("signer");
-    with_attest(alloc, signer, "--signer <HEX>", attest)?;
-    let signer = bytes(alloc, signer, "--signer <HEX>")?;
+    with_attest(alloc, of, signer, "--signer <HEX>", attest)?;
+    let signer = bytes(alloc, of, signer, "--signer <HEX>")?;
     let name = words.get_str("hash");
-    let hash = hash(alloc, name)?;
+    let hash = hash(alloc, of, name)?;
     let quote = words.get_str("quote");
-    with_quote(alloc, name, quote, attest)?;
+    with_quote(alloc, of, name, quote, attest)?;
     Ok(CheckOptions {
         nonce,
         any_nonce: is_given(words, "any-nonce"),
         required,
-        any_selection: is_given(words, "any-selection"),
+        any_selection: is_either(is_given(words, "any-selection"), has(words, "allow")),
         signer,
         quote,
         hash,
         secure_boot: is_given(words, "secure-boot"),
         any_state: is_given(words, "any-state"),
+        extends: is_given(words, "extends"),
         json: is_given(words, "json"),
     })
 }
 
 // A usage fault where a flag is given beside words with which it doesn't go.
-fn check_flags(alloc: Global, words: &ArgMatches<'_>) -> Result<(), Stop>
+fn check_flags(alloc: Global, of: Subcommand, words: &ArgMatches<'_>) -> Result<(), Stop>
     ensures { MatchResult result (λ _. GoTogether (first_value (found_of words.now)))
         (IsMemoryOr (GoTogether (first_value (found_of words.now)) → ⊥)) }
 {
     let attest = has(words, "attest");
     let secure_boot = is_given(words, "secure-boot");
-    let alone = is_without(!has(words, "registers"), has(words, "quote"));
     let reason = "--secure-boot goes with neither --registers nor --quote";
-    check_flag(alloc, goes_with(secure_boot, alone), reason)?;
+    check_flag(
+        alloc,
+        of,
+        goes_with(secure_boot, has_neither(words)),
+        reason,
+    )?;
     let any_state = is_given(words, "any-state");
     let reason = "--any-state goes with --secure-boot";
-    check_flag(alloc, goes_with(any_state, secure_boot), reason)?;
+    check_flag(alloc, of, goes_with(any_state, secure_boot), reason)?;
     let without_nonce = is_without(attest, has(words, "nonce"));
     let reason = "--any-nonce goes with --attest, and not with --nonce";
     check_flag(
         alloc,
+        of,
         goes_with(is_given(words, "any-nonce"), without_nonce),
         reason,
     )?;
@@ -98,9 +111,43 @@ fn check_flags(alloc: Global, words: &ArgMatches<'_>) -> Result<(), Stop>
     let reason = "--any-selection goes with --attest, and not with --require";
     check_flag(
         alloc,
+        of,
         goes_with(is_given(words, "any-selection"), without_list),
         reason,
     )
+}
+
+// The same of a list of allowed digests, and of what a log extends.
+fn check_digests(alloc: Global, of: Subcommand, words: &ArgMatches<'_>) -> Result<(), Stop>
+    ensures { MatchResult result (λ _. DigestsGoTogether (first_value (found_of words.now)))
+        (IsMemoryOr (DigestsGoTogether (first_value (found_of words.now)) → ⊥)) }
+{
+    let beside = are_both(has(words, "attest"), has_neither(words));
+    let reason = "--allow goes with --attest, and with neither --registers nor --quote";
+    check_flag(alloc, of, goes_with(has(words, "allow"), beside), reason)?;
+    let reason = "--extends goes alone";
+    check_flag(
+        alloc,
+        of,
+        goes_with(is_given(words, "extends"), is_alone(words)),
+        reason,
+    )
+}
+
+// Whether neither a list of registers nor the information of a quote is given.
+fn has_neither(words: &ArgMatches<'_>) -> bool
+    ensures { result ≡ has_neither (first_value (found_of words.now)) }
+{
+    is_without(!has(words, "registers"), has(words, "quote"))
+}
+
+// Whether that is so, and neither a quote as it was signed is given nor Secure Boot or JSON asked for.
+fn is_alone(words: &ArgMatches<'_>) -> bool
+    ensures { result ≡ is_alone (first_value (found_of words.now)) }
+{
+    let unsigned = is_without(has_neither(words), has(words, "attest"));
+    let unasked = is_without(unsigned, is_given(words, "secure-boot"));
+    is_without(unasked, is_given(words, "json"))
 }
 
 // Whether the option of this name is given.
@@ -108,6 +155,18 @@ fn has(words: &ArgMatches<'_>, name: &str) -> bool
     ensures { result ≡ is_some (first_value (found_of words.now) name.now) }
 {
     words.get_str(name).is_some()
+}
+
+fn are_both(one: bool, other: bool) -> bool
+    ensures { result ≡ (one && other) }
+{
+    one && other
+}
+
+fn is_either(one: bool, other: bool) -> bool
+    ensures { result ≡ (one || other) }
+{
+    one || other
 }
 
 // Whether the one holds, and not the other.
@@ -125,18 +184,19 @@ fn goes_with(flag: bool, holds: bool) -> bool
 }
 
 // A usage fault for this reason, where that doesn't hold.
-fn check_flag(alloc: Global, holds: bool, reason: &str) -> Result<(), Stop>
+fn check_flag(alloc: Global, of: Subcommand, holds: bool, reason: &str) -> Result<(), Stop>
     ensures { MatchResult result (λ _. holds ≡ true) (IsMemoryOr (holds ≡ false)) }
 {
     if holds {
         return Ok(());
     }
-    Err(wrong_words(alloc, Subcommand::Check, reason))
+    Err(wrong_words(alloc, of, reason))
 }
 
 // A usage fault where this word is given without a quote as it was signed.
 fn with_attest(
     alloc: Global,
+    of: Subcommand,
     given: Option<&str>,
     word: &str,
     attest: Option<&str>,
@@ -149,14 +209,19 @@ fn with_attest(
     match (given, attest) {
         (Some(text), None) => {
             let reason = "no --attest is given";
-            Err(invalid_value(alloc, Subcommand::Check, text, word, reason))
+            Err(invalid_value(alloc, of, text, word, reason))
         }
         _ => Ok(()),
     }
 }
 
 // The bytes of hexadecimal digits, where they are given. A usage fault where they are none.
-fn bytes(alloc: Global, text: Option<&str>, word: &str) -> Result<Option<Vec<u8>>, Stop>
+fn bytes(
+    alloc: Global,
+    of: Subcommand,
+    text: Option<&str>,
+    word: &str,
+) -> Result<Option<Vec<u8>>, Stop>
     ensures { MatchResult result (λ bytes. AreBytes (option_map (λ t. t.now) text.entry) bytes)
         (IsMemoryOr ((bytes : Option (VecValue ℕ))
         → AreBytes (option_map (λ t. t.now) text.entry) bytes → ⊥)) }
@@ -166,13 +231,22 @@ fn bytes(alloc: Global, text: Option<&str>, word: &str) -> Result<Option<Vec<u8>
     };
     match bytes_in(alloc, text)? {
         Some(bytes) => Ok(Some(bytes)),
-        None => Err(not_hexadecimal(alloc, Subcommand::Check, text, word)),
+        None => Err(not_hexadecimal(alloc, of, text, word)),
+    }
+}
+
+// Why a hash is at fault without a quote.
+fn without_quote(of: Subcommand) -> &'static str {
+    match of {
+        Subcommand::Check => "no --quote or --attest is given",
+        _ => "no --attest is given",
     }
 }
 
 // A usage fault where a hash is given without a quote.
 fn with_quote(
     alloc: Global,
+    of: Subcommand,
     name: Option<&str>,
     quote: Option<&str>,
     attest: Option<&str>,
@@ -184,15 +258,15 @@ fn with_quote(
 {
     match (name, quote, attest) {
         (Some(text), None, None) => {
-            let reason = "no --quote or --attest is given";
-            Err(invalid_value(alloc, Subcommand::Check, text, "--hash <NAME>", reason))
+            let reason = without_quote(of);
+            Err(invalid_value(alloc, of, text, "--hash <NAME>", reason))
         }
         _ => Ok(()),
     }
 }
 
 // The registers that a list names, where it is given. A usage fault where it is none.
-fn required(alloc: Global, list: Option<&str>) -> Result<Option<Selections>, Stop>
+fn required(alloc: Global, of: Subcommand, list: Option<&str>) -> Result<Option<Selections>, Stop>
     ensures { MatchResult result
         (λ required. Requires (option_map (λ l. l.now) list.entry) required)
         (IsMemoryOr ((required : Option (List SelectionValue))
@@ -205,7 +279,7 @@ fn required(alloc: Global, list: Option<&str>) -> Result<Option<Selections>, Sto
         Some(required) => Ok(Some(required)),
         None => {
             let reason = "it is no list of registers, as sha1:7+sha256:0,1,2 or sha256:all";
-            Err(invalid_value(alloc, Subcommand::Check, text, "--require <LIST>", reason))
+            Err(invalid_value(alloc, of, text, "--require <LIST>", reason))
         }
     }
 }
@@ -219,7 +293,7 @@ fn hash_named(text: &str) -> Option<Alg>
 }
 
 // The hash of this name, where it is given. A usage fault where none has it.
-fn hash(alloc: Global, name: Option<&str>) -> Result<Option<Alg>, Stop>
+fn hash(alloc: Global, of: Subcommand, name: Option<&str>) -> Result<Option<Alg>, Stop>
     ensures { MatchResult result (λ hash. IsHashIf (option_map (λ n. n.now) name.entry) hash)
         (IsMemoryOr ((hash : Option AlgValue)
         → IsHashIf (option_map (λ n. n.now) name.entry) hash → ⊥)) }
@@ -231,7 +305,7 @@ fn hash(alloc: Global, name: Option<&str>) -> Result<Option<Alg>, Stop>
         Some(hash) => Ok(Some(hash)),
         None => {
             let reason = "it is none of sha1, sha256 and sha384";
-            Err(invalid_value(alloc, Subcommand::Check, text, "--hash <NAME>", reason))
+            Err(invalid_value(alloc, of, text, "--hash <NAME>", reason))
         }
     }
 }

@@ -1,28 +1,33 @@
 //! The words of the subcommand `events`.
 
-ghost use Rattle.std.specs.Prelude.{ℕ, Option, MatchResult, option_map};
+ghost use Rattle.std.specs.Prelude.{Option, MatchResult, option_map};
+ghost use Rattle.tpm_names.specs.declared.selection.RegisterList.{RegisterList as RegisterListValue};
 ghost use Rattle.tpm_args.specs.Stop.{IsMemoryOr};
-ghost use Rattle.tpm_args.specs.Task.{IsRegister};
+ghost use Rattle.tpm_args.specs.Task.{AreListed};
 
 use crate::invalid::{Subcommand, invalid_value};
 use crate::stop::Stop;
 use std::alloc::Global;
-use tpm_names::number::decimal;
+use tpm_names::selection::RegisterList;
 
-/// The register that alone is listed: a number of decimal digits alone, without a sign. A usage
-/// fault where it is none, or not below 2^64.
-pub(crate) fn register(alloc: Global, text: Option<&str>) -> Result<Option<u64>, Stop>
+/// The registers that alone are listed, where they are given. A usage fault where the text lists none.
+pub(crate) fn registers<'a>(
+    alloc: Global,
+    text: Option<&'a str>,
+) -> Result<Option<RegisterList<'a>>, Stop>
     ensures { MatchResult result
-        (λ register. IsRegister (option_map (λ t. t.now) text.entry) register)
-        (IsMemoryOr ((register : Option ℕ)
-        → IsRegister (option_map (λ t. t.now) text.entry) register → ⊥)) }
+        (λ registers. AreListed (option_map (λ t. t.now) text.entry) registers)
+        (IsMemoryOr ((registers : Option RegisterListValue)
+        → AreListed (option_map (λ t. t.now) text.entry) registers → ⊥)) }
 {
     let Some(text) = text else {
         return Ok(None);
     };
-    if let Some(register) = decimal(text) {
-        return Ok(Some(register));
+    match RegisterList::new(text) {
+        Some(registers) => Ok(Some(registers)),
+        None => {
+            let reason = "it is no list of registers, as 7 or 4,7 or 0-7, up to 23";
+            Err(invalid_value(alloc, Subcommand::Events, text, "--register <LIST>", reason))
+        }
     }
-    let reason = "it is no decimal number up to 18446744073709551615";
-    Err(invalid_value(alloc, Subcommand::Events, text, "--register <N>", reason))
 }

@@ -8,8 +8,8 @@ ghost use Rattle.tpm_words.specs.Program.{program_app};
 ghost use Rattle.tpm_args.specs.Stop.{StopsFor, IsAsked, IsMemoryOr, Refuses};
 ghost use Rattle.tpm_args.specs.Task.{is_given as is_given_by, Asks, AsksNothing, AsksNothingWith, AsksWith};
 
-use crate::check::check_task;
-use crate::events::register;
+use crate::check::{check_task, options};
+use crate::events::registers;
 use crate::explain::explain_task;
 use crate::invalid::{Subcommand, no_command};
 use crate::name::command_named;
@@ -64,10 +64,11 @@ impl Words {
     ///   `--decimal` is given.
     /// - `check`: a hash other than `sha1`, `sha256` and `sha384`; a nonce or a signer that is not hexadecimal; a list
     ///   of no registers; a word whose quote is not given (the hash wants one of `--quote` and `--attest`; the nonce,
-    ///   the list, the signer, `--any-nonce` and `--any-selection` want `--attest`); any nonce beside a nonce, and any
-    ///   selection beside a list; `--secure-boot` beside `--registers` or `--quote`; `--any-state` without
-    ///   `--secure-boot`.
-    /// - `events`: a register's number that is other than decimal digits or above 2^64 - 1.
+    ///   the list, the signer, `--any-nonce`, `--any-selection` and `--allow` want `--attest`); any nonce beside a
+    ///   nonce, and any selection beside a list; `--secure-boot` or `--allow` beside `--registers` or `--quote`;
+    ///   `--any-state` without `--secure-boot`; `--extends` beside any of `--registers`, `--quote`, `--attest`,
+    ///   `--secure-boot` and `--json`.
+    /// - `events`: a list of no registers; and of a quote what is refused of `check`.
     pub fn task(&self, alloc: Global) -> Result<Task<'_>, Stop>
         ensures ok { IfOk result (λ t. Asks (subcommand_of program_app self.now) t) }
         ensures err { IfErr result (λ stop. Refuses self.now stop) }
@@ -152,13 +153,17 @@ fn events_task<'a>(alloc: Global, words: &ArgMatches<'a>) -> Asked<'a>
     let Some(log) = words.get_str("LOG") else {
         return Ok(None);
     };
-    let register = register(alloc, words.get_str("register"))?;
+    let registers = registers(alloc, words.get_str("register"))?;
+    let options = options(alloc, Subcommand::Events, words)?;
     Ok(Some(Task::Events {
         log,
-        register,
+        registers,
         places: is_given(words, "places"),
         digests: is_given(words, "digests"),
+        event_data: is_given(words, "data"),
         json: is_given(words, "json"),
+        attest: words.get_str("attest"),
+        options,
     }))
 }
 

@@ -13,7 +13,7 @@ use std::alloc::{AllocError, Global};
 use tpm_words::{build_words, check_words, events_words, explain_words, run_words, show_words};
 
 /// A subcommand, whose usage stands behind what is at fault.
-#[derive(Drop)]
+#[derive(Clone, Copy)]
 pub(crate) enum Subcommand {
     Show,
     Build,

@@ -1,6 +1,7 @@
 //! What the words ask for.
 
 use crate::stop::Stop;
+use tpm_names::selection::RegisterList;
 use tpm_options::{CheckFiles, CheckOptions};
 use tpm_types::{AuthValue, CommandCode};
 
@@ -78,24 +79,32 @@ pub enum Task<'a> {
         name: &'a str,
     },
     /// `check LOG ..`: print the registers that a log gives, or compare them; or, with `--secure-boot`, print whether
-    /// Secure Boot was on in the boot that the log tells of.
+    /// Secure Boot was on in the boot that the log tells of; or, with `--extends`, by which digests it extends
+    /// registers.
     Check {
         /// The files.
         files: CheckFiles<'a>,
         /// What is asked of them.
         options: CheckOptions<'a>,
     },
-    /// `events LOG [--register N] [--places] [--digests] [--json]`: print the records of a log.
+    /// `events LOG [--register LIST] [--places] [--digests] [--data] [--json]`: print the records of a log; or, with
+    /// `--attest`, what a quote says as it was signed, and then the records, with what that vouches for.
     Events {
         /// The path of the log.
         log: &'a str,
-        /// The register whose records alone are printed.
-        register: Option<u64>,
+        /// The registers whose records alone are printed.
+        registers: Option<RegisterList<'a>>,
         /// Whether each record is printed with its place.
         places: bool,
         /// Whether it is printed with its digests.
         digests: bool,
+        /// Whether it is printed with its data.
+        event_data: bool,
         /// Whether it is printed as an object of JSON.
         json: bool,
+        /// The path of the quote.
+        attest: Option<&'a str>,
+        /// What is expected of it.
+        options: CheckOptions<'a>,
     },
 }

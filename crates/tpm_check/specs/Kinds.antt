@@ -31,7 +31,7 @@ log_words logs.Device = codes "a read of the log failed"
 
 -- what keeps a log from telling of Secure Boot (the same, "PCR[7] - Secure Boot Policy Measurements")
 abbrev pub boot_words : SecureBootFaultKind → List ℕ
-boot_words boots.NotMeasured = codes "the bank's digest of the record is not the hash of its data"
+boot_words boots.NotMeasured = codes "the bank's digest of the record is not the hash of its data, nor, of an authority, of all but their last byte"
 boot_words boots.OtherType = codes "before the separator, the record is no variable, none of the profile's actions and no separator"
 boot_words boots.NoVariable = codes "the data of the variable's record are no UEFI_VARIABLE_DATA to their end"
 boot_words boots.Twice = codes "SecureBoot, PK, KEK, db, dbx, dbt or dbr was measured before"

@@ -29,7 +29,7 @@ use tpm_output::text::Pushed;
 use tpm_wire::Source;
 
 /// How many bytes a list has at most.
-const MOST_BYTES: usize = 16_777_216;
+pub(crate) const MOST_BYTES: usize = 16_777_216;
 
 // A list of registers that is being compared: with which registers, the heading above the next line, and of the lines
 // before it whether all match and whether any states a register.
@@ -147,7 +147,8 @@ impl LineSink for Comparing<'_> {
     }
 }
 
-fn no_register_text(json: bool, any: bool) -> &'static str
+/// What is printed behind a list of which no line states a register, and nothing behind any other.
+pub(crate) fn no_register_text(json: bool, any: bool) -> &'static str
     ensures { result.now ≡ no_register_text json any }
 {
     match (json, any) {

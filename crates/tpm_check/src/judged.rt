@@ -108,8 +108,9 @@ fn push_signer(
     }
 }
 
+/// Adds the line of a register that is lacking.
 #[tactic(auto, unfolding(crate::specs::CheckAttest::lacks_line))]
-fn push_lacks(text: &mut String, missing: NotSelected) -> Pushed
+pub(crate) fn push_lacks(text: &mut String, missing: NotSelected) -> Pushed
     ensures { OnOk result (string_bytes text.new ≡ string_bytes text.old ++ lacks_line missing) }
 {
     let bank = missing.bank.name();

@@ -164,7 +164,7 @@ fn boot_words(kind: SecureBootFaultKind) -> &'static str
 {
     match kind {
         SecureBootFaultKind::NotMeasured =>
-            "the bank's digest of the record is not the hash of its data",
+            "the bank's digest of the record is not the hash of its data, nor, of an authority, of all but their last byte",
         SecureBootFaultKind::OtherType =>
             "before the separator, the record is no variable, none of the profile's actions and no separator",
         SecureBootFaultKind::NoVariable =>

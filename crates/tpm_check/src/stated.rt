@@ -40,7 +40,8 @@ pub(crate) fn cut(text: &[u8]) -> (&[u8], &[u8])
     }
 }
 
-fn bank_named(word: &[u8]) -> Option<Alg>
+/// The bank of this name.
+pub(crate) fn bank_named(word: &[u8]) -> Option<Alg>
     ensures { result ≡ bank_named word.now }
 {
     Alg::ALL

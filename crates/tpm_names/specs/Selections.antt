@@ -7,6 +7,7 @@ use Rattle.std.specs.Str.Parse.{digits_value}
 use Rattle.std.specs.Str.{bytes_eq, all_ascii_digits}
 use Rattle.tpm_types.specs.declared.alg.Alg.{Alg}
 use Rattle.tpm_types.specs.declared.tpms.Selection.{Selection}
+use Rattle.tpm_names.specs.declared.selection.RegisterList.{RegisterList}
 use Rattle.tpm_types.specs.Alg.{alg_name, all_algs}
 use Rattle.tpm_types.specs.Handles.{is_pcr}
 use Rattle.tpm_types.specs.Tpms.{is_selected}
@@ -53,6 +54,14 @@ are_registers text = bytes_eq text (codes "all") || list_all is_range (parts 44 
 -- They name this register.
 abbrev pub name_register : ℕ → List ℕ → Bool
 name_register register text = bytes_eq text (codes "all") || list_any (range_names register) (parts 44 text)
+
+-- a list of registers, by its text
+abbrev pub IsRegisterList : List ℕ → RegisterList → Type 0
+IsRegisterList text list = (list.text.now ≡ text) × (are_registers text ≡ true)
+
+-- It has this register, where there is such a one.
+abbrev pub has_register : RegisterList → ℕ → Bool
+has_register list register = is_pcr register && name_register register list.text.now
 
 -- what stands before the first colon, and behind it
 abbrev pub name_in : List ℕ → List ℕ

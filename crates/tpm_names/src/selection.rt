@@ -4,6 +4,7 @@ ghost use Rattle.std.specs.Prelude.{◌≡◌, ◌<◌, ◌+◌, ℕ, List, Matc
 ghost use Rattle.std.specs.List.{list_any};
 ghost use Rattle.std.specs.Str.{bytes_eq};
 ghost use Rattle.tpm_types.specs.declared.tpms.Selection.{Selection as SelectionValue};
+ghost use Rattle.tpm_names.specs.declared.selection.RegisterList.{RegisterList as RegisterListValue};
 ghost use Rattle.tpm_types.specs.Alg.{alg_name, all_algs};
 ghost use Rattle.tpm_types.specs.Tpma.{is_set};
 ghost use Rattle.tpm_types.specs.Tpms.{is_selected};
@@ -11,6 +12,7 @@ ghost use Rattle.tpm_names.specs.Selections.{first_in, last_in, register_in, are
 ghost use Rattle.tpm_names.specs.Selections.{is_range as is_range_of_text, range_names as range_names_of};
 ghost use Rattle.tpm_names.specs.Selections.{name_register as name_register_of, is_part as is_part_of};
 ghost use Rattle.tpm_names.specs.Selections.{part_names as part_names_of, names as names_of, AreSelections};
+ghost use Rattle.tpm_names.specs.Selections.{has_register, IsRegisterList};
 
 use crate::number::decimal;
 use tpm_types::{Alg, REGISTERS, Selection, Selections};
@@ -35,6 +37,35 @@ pub fn selections(text: &str) -> Option<Selections>
     selections.push(selection(text, Alg::Sha256));
     selections.push(selection(text, Alg::Sha384));
     Some(selections)
+}
+
+/// Registers by their text, as `4,7`.
+#[derive(Clone, Copy, Debug, PartialEq, Eq)]
+pub struct RegisterList<'a> {
+    text: &'a str,
+}
+
+impl<'a> RegisterList<'a> {
+    /// The registers that this text lists: numbers with commas between them, as `4,7`, where `0-7` stands for those
+    /// from one to another; or `all` for all 24. A number may have leading zeros. None is answered for any other text:
+    /// where a number is above 23, has a sign, is above the last of its range, or is left out.
+    pub fn new(text: &'a str) -> Option<Self>
+        ensures { MatchOption result ((list : RegisterListValue)
+            → IsRegisterList text.now list → ⊥) (λ list. IsRegisterList text.now list) }
+    {
+        if are_registers(text) {
+            Some(RegisterList { text })
+        } else {
+            None
+        }
+    }
+
+    /// Whether this is one of them, which none above 23 is.
+    pub fn has(&self, register: u32) -> bool
+        ensures { result ≡ has_register self.now register }
+    {
+        register < REGISTERS && name_register(self.text, register)
+    }
 }
 
 // The registers of a bank that the text names.

@@ -12,6 +12,8 @@ pub struct CheckFiles<'a> {
     pub registers: Option<&'a str>,
     /// A quote as it was signed: a TPMS_ATTEST (Part 2, 10.12.8).
     pub attest: Option<&'a str>,
+    /// A list of allowed digests.
+    pub allow: Option<&'a str>,
 }
 
 /// What a log is checked for, and what is expected of the quotes beside it.
@@ -23,7 +25,8 @@ pub struct CheckOptions<'a> {
     pub any_nonce: bool,
     /// The registers that this quote has to select at least.
     pub required: Option<Selections>,
-    /// Whether any register that it selects is what was asked for. None are required then.
+    /// Whether any register that it selects is what was asked for, as where a list of allowed digests says which it has
+    /// to select.
     pub any_selection: bool,
     /// The qualified name of the key that has to have signed it.
     pub signer: Option<Vec<u8>>,
@@ -35,6 +38,8 @@ pub struct CheckOptions<'a> {
     pub secure_boot: bool,
     /// Whether `off` and `unset` are what was asked for, too.
     pub any_state: bool,
+    /// Whether it is asked by which digests the log extends registers, in place of registers.
+    pub extends: bool,
     /// Whether what is printed is objects of JSON, one in a line, in place of lines.
     pub json: bool,
 }

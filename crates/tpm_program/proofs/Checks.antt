@@ -6,18 +6,21 @@ use Rattle.tpm_pcr.specs.Registers.{Registers}
 use Rattle.tpm_log.specs.declared.fault.LogFault.{LogFault}
 use Rattle.tpm_log.specs.Changes.{AreAfter}
 use Rattle.tpm_log.specs.Replays.{LogSource, ReplaysFrom}
+use Rattle.tpm_names.specs.declared.selection.RegisterList.{RegisterList}
 use Rattle.tpm_options.specs.declared.CheckFiles.{CheckFiles}
 use Rattle.tpm_options.specs.declared.CheckOptions.{CheckOptions}
 use Rattle.tpm_output.specs.declared.fault.ToolFault.TheVariants.{Memory, Read, Write, InputTooLong}
 use Rattle.tpm_output.specs.declared.fault.ToolFault.{ToolFault}
 use Rattle.tpm_output.specs.Reads.{most_attest}
-use Rattle.tpm_args.specs.declared.task.Task.TheVariants.{Check}
+use Rattle.tpm_args.specs.declared.task.Task.TheVariants.{Check, Events}
 use Rattle.tpm_check.specs.Check.{CountsReads, Failures}
+use Rattle.tpm_program.specs.declared.cause.Cause.{Cause}
 use Rattle.tpm_program.specs.declared.fault.Fault.TheVariants.{File, Tool}
 use Rattle.tpm_program.specs.declared.fault.Fault.{Fault}
 use Rattle.tpm_program.specs.Offered.{Offered, OfFile, OfFileIf}
-use Rattle.tpm_program.specs.Performs.{ByFlag, OfAttest, OfFirst, unfailing}
-use Rattle.tpm_program.specs.Fails.{Fails, FailsAt, FailsAtIf, IsNotOpened, IsNotOpenedIf, IsOfReading, IsOpened, IsTooLong, read_last}
+use Rattle.tpm_program.specs.Performs.{ByFlag, OfAllow, OfAttest, OfFirst, unfailing}
+use Rattle.tpm_program.specs.Fails.{Fails, FailsAt, FailsAtIf, IsNotOpened, IsNotOpenedIf, IsOfReading, IsOpened, IsTooLong, IsUnreadOf}
+use Rattle.tpm_program.specs.Fails.{path_if, read_last}
 
 -- ---- what is printed
 
@@ -59,6 +62,11 @@ pub of_attest_if : (offered : Offered) (path : Option (Bor (List ℕ))) (x : Opt
 of_attest_if offered None x Q h q = subst Q (sym h) q
 of_attest_if offered (Some path) x Q h q = (h.0, h.1, (h.2.0, h.2.1, h.2.2, subst Q (sym h.2.3) q))
 
+pub of_allow_if : (offered : Offered) (path : Option (Bor (List ℕ))) (x : Option (List ℕ)) (Q : Option (List ℕ) → Type 0)
+    → OfAllow offered path (λ read. read ≡ x) → Q x → OfAllow offered path Q
+of_allow_if offered None x Q h q = subst Q (sym h) q
+of_allow_if offered (Some path) x Q h q = (h.0, h.1, (h.2.0, h.2.1, h.2.2, subst Q (sym h.2.3) q))
+
 -- ---- what keeps it from that
 
 pub at_reading : (offered : Offered) (path : List ℕ) (tool : ToolFault) (fault : Fault) → IsOpened offered path
@@ -70,27 +78,27 @@ at_reading offered path Write fault opened k h = subst (FailsAt offered path) (s
 at_reading offered path InputTooLong fault opened k h = absurd (k refl)
 
 -- the files, by their paths
-abbrev files : (log : Bor (List ℕ)) → (registers attest : Option (Bor (List ℕ))) → CheckFiles
-files log registers attest = record { log = log; registers = registers; attest = attest }
+abbrev files : (log : Bor (List ℕ)) → (registers attest allow : Option (Bor (List ℕ))) → CheckFiles
+files log registers attest allow = record { log = log; registers = registers; attest = attest; allow = allow }
 
 opened_if : (offered : Offered) (path : Bor (List ℕ)) (P : Option (Option (List ℕ)) → Type 0) → OfFileIf offered (Some path) P → IsOpened offered path.now
 opened_if offered path P h = (h.0, h.1)
 
-module _ (offered : Offered) (log : Bor (List ℕ)) (o : CheckOptions) where
+module _ (offered : Offered) (log : Bor (List ℕ)) (allow : Option (Bor (List ℕ))) (o : CheckOptions) where
   pub log_not_opened : (registers attest : Option (Bor (List ℕ))) (fault : Fault)
-      → IsNotOpened offered log.now fault → Fails offered (Check (files log registers attest) o) fault
+      → IsNotOpened offered log.now fault → Fails offered (Check (files log registers attest allow) o) fault
   log_not_opened registers attest (File at cause) h = inl (h.0, inl h.1)
   log_not_opened registers attest (Tool tool) h = absurd h
 
   pub list_not_opened : (registers attest : Option (Bor (List ℕ))) (fault : Fault) → IsOpened offered log.now
-      → IsNotOpenedIf offered registers fault → Fails offered (Check (files log registers attest) o) fault
+      → IsNotOpenedIf offered registers fault → Fails offered (Check (files log registers attest allow) o) fault
   list_not_opened None attest fault opened h = absurd h
   list_not_opened (Some list) attest (File at cause) opened h = inr (opened, inl (h.0, inl h.1))
   list_not_opened (Some list) attest (Tool tool) opened h = absurd h
 
   quote_not_read : (registers : Option (Bor (List ℕ))) (attest : Bor (List ℕ)) (fault : Fault) (P : Option (Option (List ℕ)) → Type 0)
       → IsOpened offered log.now → OfFileIf offered registers P → FailsAt offered attest.now fault
-      → Fails offered (Check (files log registers (Some attest)) o) fault
+      → Fails offered (Check (files log registers (Some attest) allow) o) fault
   quote_not_read None attest (File at cause) P opened list h = inr (opened, inl h)
   quote_not_read (Some path) attest (File at cause) P opened list h = inr (opened, inr (opened_if offered path P list, inl h))
   quote_not_read registers attest (Tool Memory) P opened list h = tt
@@ -100,14 +108,14 @@ module _ (offered : Offered) (log : Bor (List ℕ)) (o : CheckOptions) where
 
   pub quote_not_read_if : (registers attest : Option (Bor (List ℕ))) (fault : Fault) (P : Option (Option (List ℕ)) → Type 0)
       → IsOpened offered log.now → OfFileIf offered registers P → FailsAtIf offered attest fault
-      → Fails offered (Check (files log registers attest) o) fault
+      → Fails offered (Check (files log registers attest allow) o) fault
   quote_not_read_if registers None fault P opened list h = absurd h
   quote_not_read_if registers (Some attest) fault P opened list h = quote_not_read registers attest fault P opened list h
 
   -- The file that was read last is one of them.
   last_not_read : (failures : ℕ) (registers attest : Option (Bor (List ℕ))) (fault : Fault) (P : Option (Option (List ℕ)) → Type 0)
       → IsOpened offered log.now → OfFileIf offered registers P
-      → IsOfReading offered (read_last failures log.now registers) Read fault → Fails offered (Check (files log registers attest) o) fault
+      → IsOfReading offered (read_last failures log.now registers) Read fault → Fails offered (Check (files log registers attest allow) o) fault
   last_not_read zero None attest (File at cause) P opened list h = inl (h.0, inr (opened, h.1))
   last_not_read zero (Some path) attest (File at cause) P opened list h =
       inr (opened, inl (h.0, inr (opened_if offered path P list, h.1)))
@@ -117,12 +125,73 @@ module _ (offered : Offered) (log : Bor (List ℕ)) (o : CheckOptions) where
   -- The task has no answer for this fault of its subcommand.
   pub not_checked : (failures : ℕ) (registers attest : Option (Bor (List ℕ))) (tool : ToolFault) (fault : Fault)
       (P : Option (Option (List ℕ)) → Type 0) → IsOpened offered log.now → OfFileIf offered registers P
-      → (tool ≡ InputTooLong → IsTooLong offered (Check (files log registers attest) o))
-      → IsOfReading offered (read_last failures log.now registers) tool fault → Fails offered (Check (files log registers attest) o) fault
+      → (tool ≡ InputTooLong → IsTooLong offered (Check (files log registers attest allow) o))
+      → IsOfReading offered (read_last failures log.now registers) tool fault → Fails offered (Check (files log registers attest allow) o) fault
   not_checked failures registers attest Read fault P opened list k h = last_not_read failures registers attest fault P opened list h
   not_checked failures registers attest Memory fault P opened list k h =
-      subst (Fails offered (Check (files log registers attest) o)) (sym h) tt
+      subst (Fails offered (Check (files log registers attest allow) o)) (sym h) tt
   not_checked failures registers attest Write fault P opened list k h =
-      subst (Fails offered (Check (files log registers attest) o)) (sym h) tt
+      subst (Fails offered (Check (files log registers attest allow) o)) (sym h) tt
   not_checked failures registers attest InputTooLong fault P opened list k h =
-      subst (Fails offered (Check (files log registers attest) o)) (sym h) (k refl)
+      subst (Fails offered (Check (files log registers attest allow) o)) (sym h) (k refl)
+
+-- ---- the file that is opened last
+
+of_opened : (offered : Offered) (path : Bor (List ℕ)) (P : Option (List ℕ) → Type 0) → OfAttest offered (Some path) P → IsOpened offered path.now
+of_opened offered path P h = (h.0, h.1)
+
+module _ (offered : Offered) (log : Bor (List ℕ)) (o : CheckOptions) (P : Option (Option (List ℕ)) → Type 0) (Q : Option (List ℕ) → Type 0) where
+  list_not_read : (registers attest : Option (Bor (List ℕ))) (allow : Bor (List ℕ)) (fault : Fault) → IsOpened offered log.now
+      → OfFileIf offered registers P → OfAttest offered attest Q → FailsAt offered allow.now fault
+      → Fails offered (Check (files log registers attest (Some allow)) o) fault
+  list_not_read None None allow (File at cause) opened list quote h = inr (opened, inl h)
+  list_not_read None (Some attest) allow (File at cause) opened list quote h = inr (opened, inr (of_opened offered attest Q quote, inl h))
+  list_not_read (Some path) None allow (File at cause) opened list quote h = inr (opened, inr (opened_if offered path P list, inl h))
+  list_not_read (Some path) (Some attest) allow (File at cause) opened list quote h =
+      inr (opened, inr (opened_if offered path P list, inr (of_opened offered attest Q quote, inl h)))
+  list_not_read registers attest allow (Tool Memory) opened list quote h = tt
+  list_not_read registers attest allow (Tool Write) opened list quote h = tt
+  list_not_read registers attest allow (Tool Read) opened list quote h = absurd h
+  list_not_read registers attest allow (Tool InputTooLong) opened list quote h = absurd h
+
+  pub list_not_read_if : (registers attest allow : Option (Bor (List ℕ))) (fault : Fault) → IsOpened offered log.now
+      → OfFileIf offered registers P → OfAttest offered attest Q → FailsAtIf offered allow fault
+      → Fails offered (Check (files log registers attest allow) o) fault
+  list_not_read_if registers attest None fault opened list quote h = absurd h
+  list_not_read_if registers attest (Some allow) fault opened list quote h = list_not_read registers attest allow fault opened list quote h
+
+-- ---- what keeps records from being listed
+
+quote_unread : (offered : Offered) (at : Bor (List ℕ)) (cause : Cause) (path : Option (Bor (List ℕ))) → FailsAtIf offered path (File at cause)
+    → IsUnreadOf offered (path_if path) at.now cause
+quote_unread offered at cause None h = absurd h
+quote_unread offered at cause (Some path) h = inl h
+
+module _ (offered : Offered) (log : Bor (List ℕ)) (registers : Option RegisterList) (places digests event-data json : Bool)
+    (attest : Option (Bor (List ℕ))) (o : CheckOptions) where
+  pub log_of_events_not_opened : (fault : Fault) → IsNotOpened offered log.now fault
+      → Fails offered (Events log registers places digests event-data json attest o) fault
+  log_of_events_not_opened (File at cause) h = inl (h.0, inl h.1)
+  log_of_events_not_opened (Tool tool) h = absurd h
+
+  no_other : (tool : ToolFault) (path : Option (Bor (List ℕ))) → FailsAtIf offered path (Tool tool)
+      → Fails offered (Events log registers places digests event-data json attest o) (Tool tool)
+  no_other tool None h = absurd h
+  no_other Memory (Some path) h = tt
+  no_other Write (Some path) h = tt
+  no_other Read (Some path) h = absurd h
+  no_other InputTooLong (Some path) h = absurd h
+
+  pub quote_of_events_not_read : (fault : Fault) → IsOpened offered log.now → FailsAtIf offered attest fault
+      → Fails offered (Events log registers places digests event-data json attest o) fault
+  quote_of_events_not_read (File at cause) opened h = inr (opened, quote_unread offered at cause attest h)
+  quote_of_events_not_read (Tool tool) opened h = no_other tool attest h
+
+  -- The task has no answer for this fault of its subcommand.
+  pub not_listed : (tool : ToolFault) (fault : Fault) → IsOpened offered log.now → (tool ≡ InputTooLong → ⊥)
+      → IsOfReading offered log.now tool fault → Fails offered (Events log registers places digests event-data json attest o) fault
+  not_listed Read (File at cause) opened k h = inl (h.0, inr (opened, h.1))
+  not_listed Read (Tool tool) opened k h = absurd h
+  not_listed Memory fault opened k h = subst (Fails offered (Events log registers places digests event-data json attest o)) (sym h) tt
+  not_listed Write fault opened k h = subst (Fails offered (Events log registers places digests event-data json attest o)) (sym h) tt
+  not_listed InputTooLong fault opened k h = absurd (k refl)

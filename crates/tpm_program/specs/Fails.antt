@@ -28,8 +28,9 @@ abbrev pub files_of : Task → List (List ℕ)
 files_of (ShowCapture file binary fields json) = path_if file
 files_of (ShowPackets file port fields json) = file.now ∷ []
 files_of (ShowNv file) = file.now ∷ []
-files_of (Check files options) = files.log.now ∷ (path_if files.registers ++ path_if files.attest)
-files_of (Events log register places digests json) = log.now ∷ []
+files_of (Check files options) =
+    files.log.now ∷ (path_if files.registers ++ (path_if files.attest ++ path_if files.allow))
+files_of (Events log registers places digests event-data json attest options) = log.now ∷ path_if attest
 files_of _ = []
 
 -- why no more could be read: a folder has no bytes

@@ -1,5 +1,5 @@
 -- What the program does for each task (this profile): the status and what it prints.
-use Rattle.std.specs.Prelude.{◌≡◌, ℕ, Bool, true, false, List, [], Option, Some, None, Result}
+use Rattle.std.specs.Prelude.{◌≡◌, ℕ, Bool, true, false, List, [], Option, Some, None, Result, MatchOption}
 use Rattle.std.specs.Borrow.{Bor}
 use Rattle.tpm_pcr.specs.Registers.{Registers}
 use Rattle.tpm_model.specs.Steps.{Origin, new_origin}
@@ -19,8 +19,12 @@ use Rattle.tpm_show.specs.Stream.{OfRead, TellsStream}
 use Rattle.tpm_script.specs.ShowNv.{ShowsNv}
 use Rattle.tpm_check.specs.Checked.{ChecksLog}
 use Rattle.tpm_check.specs.Kinds.{ExplainsKind, spelled}
+use Rattle.tpm_events.specs.declared.listed_events.Listing.{Listing}
 use Rattle.tpm_events.specs.ListEvents.{ListsEvents, most_read}
+use Rattle.tpm_check.specs.AllowedBoot.{ChecksAllowed}
+use Rattle.tpm_check.specs.ExtendsTold.{TellsExtends}
 use Rattle.tpm_check.specs.QuotedBoot.{ChecksSecureBoot}
+use Rattle.tpm_check.specs.VouchedEvents.{ListsVouched}
 use Rattle.tpm_output.specs.Reads.{ReadsUpTo, most_attest}
 use Rattle.tpm_script.specs.Script.{ReadsScript, script, script_text, status_for}
 use Rattle.tpm_args.specs.declared.task.Task.TheVariants.{Show, ShowCapture, ShowPackets, ShowNv, Build, Run}
@@ -101,10 +105,46 @@ PrintsChecked o status text =
     (OfFirst most_read (λ bytes. ChecksSecureBoot o.options o.attest bytes status text) o.log)
     (PrintsCompared o status text)
 
+-- The one holds where a list of allowed digests is given with a quote, and else the other.
+abbrev pub ByAllow : (allow attest : Option (List ℕ)) → ((allow attest : List ℕ) → Type 0) → Type 0 → Type 0
+ByAllow (Some allow) (Some attest) P Q = P allow attest
+ByAllow _ _ P Q = Q
+
+abbrev pub PrintsBeside : Opened → (allow : Option (List ℕ)) → Status → List ℕ → Type 0
+PrintsBeside o allow status text =
+    ByAllow allow o.attest
+    (λ allow attest. OfFirst most_read (λ bytes.
+    ChecksAllowed o.options (record { attest = attest; allow = allow }) bytes status text) o.log)
+    (PrintsChecked o status text)
+
+-- by which digests the log extends registers, where that is asked for
+abbrev pub PrintsAsked : Opened → (allow : Option (List ℕ)) → Status → List ℕ → Type 0
+PrintsAsked o allow status text =
+    ByFlag o.options.extends
+    (OfFirst most_read (λ bytes. TellsExtends bytes status text) o.log)
+    (PrintsBeside o allow status text)
+
+-- This holds of what is read of a list of allowed digests, where it has a path.
+abbrev pub OfAllow : Offered → (path : Option (Bor (List ℕ))) → (Option (List ℕ) → Type 0) → Type 0
+OfAllow offered None P = P None
+OfAllow offered (Some path) P = OfFile offered path.now (OfFirst most_read (λ bytes. P (Some bytes)))
+
 -- This holds of what is read of a quote as it was signed, where it has a path.
 abbrev pub OfAttest : Offered → (path : Option (Bor (List ℕ))) → (Option (List ℕ) → Type 0) → Type 0
 OfAttest offered None P = P None
 OfAttest offered (Some path) P = OfFile offered path.now (OfFirst most_attest (λ bytes. P (Some bytes)))
+
+-- what is listed of a log, those bytes, and what is expected of the quote
+pub record Listed : Type 0 where
+  pub listing : Listing
+  pub attest : Option (List ℕ)
+  pub options : CheckOptions
+
+-- the records of a log, beside a quote or by themselves
+abbrev pub PrintsEvents : Listed → List ℕ → Status → List ℕ → Type 0
+PrintsEvents l bytes status text =
+    MatchOption l.attest (ListsEvents l.listing bytes status text) (λ attest.
+    ListsVouched (record { listing = l.listing; attest = attest; options = l.options }) bytes status text)
 
 -- ---- names
 
@@ -145,7 +185,19 @@ Performs offered (Check files options) status text =
     OfFile offered files.log.now (λ log.
     OfFileIf offered files.registers (λ list.
     OfAttest offered files.attest (λ attest.
-    PrintsChecked (record { log = log; list = list; attest = attest; options = options }) status text)))
-Performs offered (Events log register places digests json) status text =
-    OfFile offered log.now (OfFirst most_read (λ bytes.
-    ListsEvents (record { register = register; places = places; digests = digests; json = json }) bytes status text))
+    OfAllow offered files.allow (λ allow.
+    PrintsAsked (record { log = log; list = list; attest = attest; options = options }) allow status text))))
+Performs offered (Events log registers places digests event-data json attest options) status text =
+    OfFile offered log.now (λ coming.
+    OfAttest offered attest (λ quote.
+    OfFirst most_read (λ bytes. PrintsEvents (record {
+      listing = record {
+        registers = registers;
+        places = places;
+        digests = digests;
+        event_data = event-data;
+        json = json;
+      };
+      attest = quote;
+      options = options;
+    }) bytes status text) coming))

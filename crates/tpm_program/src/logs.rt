@@ -5,9 +5,11 @@ ghost use Rattle.std.specs.Io.KnownBytes.{Appends};
 ghost use Rattle.tpm_output.specs.declared.fault.ToolFault.TheVariants.{InputTooLong};
 ghost use Rattle.tpm_output.specs.Reads.{most_attest};
 ghost use Rattle.tpm_check.specs.Check.{ReadsTooMuchIfList};
+ghost use Rattle.tpm_events.specs.ListEvents.{most_read};
 ghost use Rattle.tpm_args.specs.declared.task.Task.TheVariants.{Check, Events};
 ghost use Rattle.tpm_program.specs.Offered.{OfFile};
-ghost use Rattle.tpm_program.specs.Performs.{OfAttest, OfFirst, Performs, PrintsChecked};
+ghost use Rattle.tpm_program.specs.Performs.{OfAllow, OfAttest, OfFirst, Performs, PrintsAsked, PrintsChecked};
+ghost use Rattle.tpm_program.specs.Performs.{PrintsEvents};
 ghost use Rattle.tpm_program.specs.Fails.{Fails, FailsAt, FailsAtIf, read_last};
 
 use crate::fault::Fault;
@@ -15,31 +17,61 @@ use crate::files::{of_reading, opened, opened_if};
 use crate::inputs::Inputs;
 use std::alloc::Global;
 use std::io::Write;
-use tpm_check::{check_log, check_secure_boot};
+use tpm_check::{check_allowed, check_extends, check_log, check_secure_boot, list_vouched};
+use tpm_events::listed_events::MOST_READ;
 use tpm_events::{Listing, list_events};
 use tpm_options::{CheckFiles, CheckOptions};
 use tpm_output::fault::ToolFault;
-use tpm_output::reads::read_attest;
+use tpm_output::reads::{read_attest, read_up_to};
 use tpm_output::status::Status;
 use tpm_wire::Source;
 
-/// Lists the records of a log.
+// Lists the records of a log that is opened, beside a quote where there is one.
+fn list_opened<S: Source, W: Write>(
+    alloc: Global,
+    log: &mut S,
+    listing: Listing<'_>,
+    attest: Option<&[u8]>,
+    options: &CheckOptions<'_>,
+    out: &mut W,
+) -> Result<Status, ToolFault>
+    ensures ok { IfOk result (λ status. (text : List ℕ)
+        × OfFirst most_read (λ bytes. PrintsEvents (record {
+          listing = listing.entry;
+          attest = option_map (λ a. a.now) attest.entry;
+          options = options.now;
+        }) bytes status text) (S.coming log.old)
+        × Appends (W.contents out.old) (W.contents out.new) text) }
+    ensures short { IsErrOf result InputTooLong → ⊥ }
+{
+    match attest {
+        Some(attest) => list_vouched(alloc, log, listing, options, attest, out),
+        None => list_events(alloc, log, listing, out),
+    }
+}
+
+/// Lists the records of a log, beside a quote where there is one.
 pub(crate) fn events<'a, I: Inputs, W: Write>(
     alloc: Global,
     inputs: &I,
     out: &mut W,
     path: &'a str,
-    listing: Listing,
+    listing: Listing<'_>,
+    attest: Option<&'a str>,
+    options: &CheckOptions<'_>,
 ) -> Result<Status, Fault<'a>>
     ensures ok { IfOk result (λ status. (text : List ℕ)
         × Performs (I.offers inputs.now)
-        (Events path.entry listing.register listing.places listing.digests listing.json) status text
+        (Events path.entry listing.entry.registers listing.entry.places listing.entry.digests
+        listing.entry.event_data listing.entry.json attest.entry options.now) status text
         × Appends (W.contents out.old) (W.contents out.new) text) }
     ensures err { IfErr result (λ fault. Fails (I.offers inputs.now)
-        (Events path.entry listing.register listing.places listing.digests listing.json) fault) }
+        (Events path.entry listing.entry.registers listing.entry.places listing.entry.digests
+        listing.entry.event_data listing.entry.json attest.entry options.now) fault) }
 {
     let mut log = opened(inputs, path)?;
-    match list_events(alloc, &mut log, listing, out) {
+    let attest = attest_if(alloc, inputs, attest)?;
+    match list_opened(alloc, &mut log, listing, slice_if(&attest), options, out) {
         Ok(status) => Ok(status),
         Err(fault) => Err(of_reading(inputs, fault, path)),
     }
@@ -84,6 +116,35 @@ fn attest_if<'a, I: Inputs>(
     }
 }
 
+// The bytes of a list of allowed digests.
+fn allow_at<'a, I: Inputs>(alloc: Global, inputs: &I, path: &'a str) -> Result<Vec<u8>, Fault<'a>>
+    ensures ok { IfOk result (λ bytes. OfFile (I.offers inputs.now) path.now
+        (OfFirst most_read (λ read. read ≡ bytes.items))) }
+    ensures err { IfErr result (λ fault. FailsAt (I.offers inputs.now) path.now fault) }
+{
+    let mut source = opened(inputs, path)?;
+    match read_up_to(alloc, &mut source, MOST_READ) {
+        Ok(bytes) => Ok(bytes),
+        Err(fault) => Err(of_reading(inputs, fault, path)),
+    }
+}
+
+// The same, where there is a path.
+fn allow_if<'a, I: Inputs>(
+    alloc: Global,
+    inputs: &I,
+    path: Option<&'a str>,
+) -> Result<Option<Vec<u8>>, Fault<'a>>
+    ensures ok { IfOk result (λ bytes. OfAllow (I.offers inputs.now) path.entry
+        (λ read. read ≡ option_map (λ v. v.items) bytes)) }
+    ensures err { IfErr result (λ fault. FailsAtIf (I.offers inputs.now) path.entry fault) }
+{
+    match path {
+        Some(path) => Ok(Some(allow_at(alloc, inputs, path)?)),
+        None => Ok(None),
+    }
+}
+
 // Bytes that may be there.
 fn slice_if(bytes: &Option<Vec<u8>>) -> Option<&[u8]>
     ensures { option_map (λ b. b.now) result ≡ option_map (λ v. v.items) bytes.now }
@@ -122,7 +183,39 @@ fn check_opened<S: Source, W: Write>(
     }
 }
 
-/// Checks a log beside what is given of a list of registers and of quotes.
+// The same; but by which digests it extends registers, where that is asked for, and what it says beside a quote and a
+// list of allowed digests, where both are given.
+fn check_asked<S: Source, W: Write>(
+    alloc: Global,
+    log: &mut S,
+    options: &CheckOptions<'_>,
+    attest: Option<&[u8]>,
+    allow: Option<&[u8]>,
+    list: &mut Option<S>,
+    out: &mut W,
+) -> Result<Status, ToolFault>
+    requires { S.failed log.old ≡ 0 }
+    ensures ok { IfOk result (λ status. (text : List ℕ)
+        × PrintsAsked (record {
+          log = S.coming log.old;
+          list = option_map S.coming list.old;
+          attest = option_map (λ a. a.now) attest.entry;
+          options = options.now;
+        }) (option_map (λ a. a.now) allow.entry) status text
+        × Appends (W.contents out.old) (W.contents out.new) text) }
+    ensures too_long { IsErrOf result InputTooLong
+        → ReadsTooMuchIfList (option_map S.coming list.old) (option_map S.coming list.new) }
+{
+    if options.extends {
+        return check_extends(alloc, log, out);
+    }
+    match (allow, attest) {
+        (Some(allow), Some(attest)) => check_allowed(alloc, log, options, attest, allow, out),
+        _ => check_opened(alloc, log, options, attest, list, out),
+    }
+}
+
+/// Checks a log beside what is given of lists and of quotes.
 pub(crate) fn check<'a, I: Inputs, W: Write>(
     alloc: Global,
     inputs: &I,
@@ -139,7 +232,10 @@ pub(crate) fn check<'a, I: Inputs, W: Write>(
     let mut log = opened(inputs, files.log)?;
     let mut list = opened_if(inputs, files.registers)?;
     let attest = attest_if(alloc, inputs, files.attest)?;
-    match check_opened(alloc, &mut log, options, slice_if(&attest), &mut list, out) {
+    let allow = allow_if(alloc, inputs, files.allow)?;
+    let quote = slice_if(&attest);
+    let allow = slice_if(&allow);
+    match check_asked(alloc, &mut log, options, quote, allow, &mut list, out) {
         Ok(status) => Ok(status),
         Err(fault) => {
             let path = read_last(log.failures(), files.log, files.registers);

@@ -56,10 +56,11 @@ fn explain_name<W: Write>(alloc: Global, out: &mut W, name: &str) -> Result<Stat
 /// Performs a task: prints what it asks for, and answers whether all was done, with what is told beside it.
 ///
 /// What is printed is what the subcommand prints: `show` and `show_fields`, `show_lines` and `show_stream`,
-/// `show_packets`, `show_nv`, `build`, `run_script`, `explain` and `explain_kind`, `check_log` and
-/// `check_secure_boot`, and `list_events`. The files of a check are opened in this order: the log, the list of
-/// registers, and the quote as it was signed, of which at most 4,096 bytes are read before the log. Of packets at most
-/// 2^30 bytes are read.
+/// `show_packets`, `show_nv`, `build`, `run_script`, `explain` and `explain_kind`, `check_log`, `check_secure_boot`,
+/// `check_allowed` and `check_extends`, and `list_events` and `list_vouched`. The files of a check are opened in this
+/// order: the log, the list of registers, the quote as it was signed, of which at most 4,096 bytes are read before the
+/// log, and the list of allowed digests, of which at most 16,777,217 are; and so are those of events. Of packets at
+/// most 2^30 bytes are read.
 ///
 /// The remark is what `build` tells of parts that it refuses. Where a file can't be opened or read, the answer is
 /// `File` with its path; else a fault of the subcommand is `Tool`.
@@ -124,18 +125,25 @@ pub fn perform<'a, I: Inputs, W: Write>(
         }
         Task::Events {
             log,
-            register,
+            registers,
             places,
             digests,
+            event_data,
             json,
+            attest,
+            options,
         } => {
             let listing = Listing {
-                register,
+                registers,
                 places,
                 digests,
+                event_data,
                 json,
             };
-            Ok(silent(alloc, events(alloc, inputs, out, log, listing)?))
+            Ok(silent(
+                alloc,
+                events(alloc, inputs, out, log, listing, attest, &options)?,
+            ))
         }
     }
 }

@@ -32,8 +32,11 @@ const AFTER_HELP: &str = "Examples:
   tpmtool check LOG --attest FILE --nonce 6e6f --require sha256:0,7
   tpmtool check LOG --secure-boot
   tpmtool check LOG --secure-boot --attest FILE --nonce 6e6f --require sha256:7
+  tpmtool check LOG --attest FILE --nonce 6e6f --allow FILE
+  tpmtool check LOG --extends
   tpmtool events LOG
-  tpmtool events LOG --register 7 --digests
+  tpmtool events LOG --register 4,7 --digests
+  tpmtool events LOG --attest FILE --nonce 6e6f --require sha256:0,7
 
 Exit status:
   0  done
@@ -171,6 +174,34 @@ const EXPLAIN: [Word<'static>; 2] = [
 
 const LOG: Word<'static> = Word::Required("LOG", "The event log, a file, or - for standard input");
 
+// What is expected of a quote as it was signed.
+const NONCE: Word<'static> = Word::Option("nonce", "HEX", "The nonce that was sent for that quote");
+
+const ANY_NONCE: Word<'static> = Word::Flag("any-nonce", "Takes a quote of whatever nonce");
+
+const REQUIRE: Word<'static> = Word::Option(
+    "require",
+    "LIST",
+    "The registers that it has to select, as sha1:7+sha256:0,1,2 or sha256:all",
+);
+
+const ANY_SELECTION: Word<'static> = Word::Flag(
+    "any-selection",
+    "Takes a quote of whatever registers, if it selects one",
+);
+
+const SIGNER: Word<'static> = Word::Option(
+    "signer",
+    "HEX",
+    "The qualified name of the key that has to have signed it",
+);
+
+const HASH: Word<'static> = Word::Option(
+    "hash",
+    "NAME",
+    "The hash of the quote's digest: sha1, sha256 or sha384; by its length if it is not given",
+);
+
 /// The subcommand `check`. An error is want of memory.
 pub fn check_words<'a>(alloc: Global) -> Result<Command<'a>, AllocError>
     ensures { IfOk result (λ c. IsApp check_app c) }
@@ -183,7 +214,7 @@ pub fn check_words<'a>(alloc: Global) -> Result<Command<'a>, AllocError>
     )
 }
 
-const CHECK: [Word<'static>; 13] = [
+const CHECK: [Word<'static>; 15] = [
     LOG,
     Word::Option(
         "registers",
@@ -200,26 +231,16 @@ const CHECK: [Word<'static>; 13] = [
         "FILE",
         "Compares them with a quote as it was signed, a TPMS_ATTEST, and prints what it says",
     ),
-    Word::Option("nonce", "HEX", "The nonce that was sent for that quote"),
-    Word::Flag("any-nonce", "Takes a quote of whatever nonce"),
+    NONCE,
+    ANY_NONCE,
+    REQUIRE,
+    ANY_SELECTION,
+    SIGNER,
+    HASH,
     Word::Option(
-        "require",
-        "LIST",
-        "The registers that it has to select, as sha1:7+sha256:0,1,2 or sha256:all",
-    ),
-    Word::Flag(
-        "any-selection",
-        "Takes a quote of whatever registers, if it selects one",
-    ),
-    Word::Option(
-        "signer",
-        "HEX",
-        "The qualified name of the key that has to have signed it",
-    ),
-    Word::Option(
-        "hash",
-        "NAME",
-        "The hash of the quote's digest: sha1, sha256 or sha384; by its length if it is not given",
+        "allow",
+        "FILE",
+        "Compares what the log measured in the registers of a list with its digests, as --extends prints them",
     ),
     Word::Flag(
         "secure-boot",
@@ -228,6 +249,10 @@ const CHECK: [Word<'static>; 13] = [
     Word::Flag(
         "any-state",
         "Takes the states off and unset of Secure Boot as well as on",
+    ),
+    Word::Flag(
+        "extends",
+        "Prints the digests by which the log extends registers, as a list for --allow",
     ),
     Word::Flag(
         "json",
@@ -247,14 +272,30 @@ pub fn events_words<'a>(alloc: Global) -> Result<Command<'a>, AllocError>
     )
 }
 
-const EVENTS: [Word<'static>; 5] = [
+const EVENTS: [Word<'static>; 13] = [
     LOG,
-    Word::Option("register", "N", "Prints the records of this register alone"),
+    Word::Option(
+        "register",
+        "LIST",
+        "Prints the records of these registers alone, as 7 or 4,7 or 0-7",
+    ),
     Word::Flag(
         "places",
         "Prints how many bytes of the log precede each record, too",
     ),
     Word::Flag("digests", "Prints the digests of each record, too"),
+    Word::Flag("data", "Prints the data of each record in hexadecimal, too"),
+    Word::Option(
+        "attest",
+        "FILE",
+        "Prints what a quote as it was signed says, a TPMS_ATTEST, and what it vouches for in each record",
+    ),
+    NONCE,
+    ANY_NONCE,
+    REQUIRE,
+    ANY_SELECTION,
+    SIGNER,
+    HASH,
     Word::Flag(
         "json",
         "Prints each record as an object of JSON, with all that it holds",

@@ -42,6 +42,7 @@ pub(crate) fn options(quote: Option<&'static str>) -> CheckOptions<'static> {
         hash: None,
         secure_boot: false,
         any_state: false,
+        extends: false,
         json: false,
     }
 }

@@ -23,10 +23,11 @@ const NO_BANK_TEXT: &str =
     "1 0 EV_SEPARATOR not-hashed measured=other at=65 000d=2248a8803402a2062fee5d37fede63ea8fb30fe502b9d6ba344c0c15c566d555612494e7e0bbc6fcf26e4b2325cb9310d99db8426e78f17ef3191b4d69adcf4a separator=00000000\n";
 
 // Lines with all that they may have.
-pub(crate) const ALL: Listing = Listing {
-    register: None,
+pub(crate) const ALL: Listing<'static> = Listing {
+    registers: None,
     places: true,
     digests: true,
+    event_data: false,
     json: false,
 };
 
@@ -70,14 +71,14 @@ fn secure_boot_is_told_alike_in_any_pieces(rt: HostRuntime) -> Result<(), Fail> 
 }
 
 #[test]
-fn a_log_with_a_fault_is_not_listed(rt: HostRuntime) -> Result<(), Fail> {
+fn a_log_is_listed_up_to_its_fault(rt: HostRuntime) -> Result<(), Fail> {
     let log = hex::decode(rt.alloc(), LOG)?;
     let cut = match log.as_slice().split_last() {
         Some((_, cut)) => cut,
         None => &[],
     };
     let log = &mut Pieces::new(cut, 64);
-    let text = "log Truncated at 211\n";
+    let text = "1 0 EV_NO_ACTION not-hashed measured=other at=73 - size 0\nlog Truncated at 211\n";
     is_answered(&rt, listed(rt.alloc(), log), Ok(Status::Refused), text);
     Ok(())
 }

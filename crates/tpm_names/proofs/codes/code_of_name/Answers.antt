@@ -1,4 +1,4 @@
-use Rattle.std.proofs.Common.{◌≡◌, ℕ, Option, Some, None, Bor, option_map, refl, sym, ap, ◌∙◌}
+use Rattle.std.proofs.Common.{◌≡◌, Option, Some, None, Bor, option_map, refl, ap, ◌∙◌}
 use Rattle.std.specs.Prelude.{bit_or}
 use Rattle.tpm_names.specs.declared.meaning.Meaning.{Meaning as RustMeaning}
 use Rattle.tpm_names.specs.Codes.{format_one, format_zero, name_in, named_code}

@@ -1,0 +1,20 @@
+use Rattle.std.proofs.Common.{◌≡◌, ◌≤◌, ◌+◌, ℕ, List, Option, Some, None, length, option_map}
+use Rattle.tpm_check.specs.AllowLines.{allowed_from, allowed_in}
+use Rattle.tpm_check.specs.inner.AllowReading.{behind_these, lines_left}
+use Rattle.tpm_check.proofs.allow_lines.read_allowed.Given as goal
+
+-- how many bytes are left at most, and one more where there is a line
+abbrev left_size : Option (List ℕ) → ℕ
+left_size None = 0
+left_size (Some bytes) = length bytes + 1
+
+-- What was found, and what is left, is all.
+abbrev pub invariant-loop-left : goal.invariant-loop-left
+invariant-loop-left l = record {
+  number : l.number + left_size (option_map (λ b. b.now) l.left) ≤ length l.bytes + 1;
+  found : behind_these l.found.items (allowed_from (l.number + 1) (lines_left (option_map (λ b. b.now) l.left)))
+      ≡ allowed_in l.bytes;
+}
+
+abbrev pub decreases-loop-left : goal.decreases-loop-left
+decreases-loop-left l = left_size (option_map (λ b. b.now) l.left)

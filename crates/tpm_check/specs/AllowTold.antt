@@ -1,0 +1,124 @@
+-- What is printed of a log beside a list of allowed digests (this profile).
+use Rattle.std.specs.Prelude.{ℕ, zero, suc, Bool, true, false, not, List, [], ◌∷◌, ◌++◌, codes, find, flat_map, map}
+use Rattle.std.specs.Prelude.{Option, Some, None, if◌then◌else◌}
+use Rattle.std.specs.Fmt.{decimal}
+use Rattle.std.specs.Int.{to_be_bytes, w32}
+use Rattle.std.specs.List.{list_any}
+use Rattle.hex.specs.Hex.{encode_lower}
+use Rattle.tpm_types.specs.declared.alg.Alg.{Alg}
+use Rattle.tpm_types.specs.declared.tpms.Selection.{Selection}
+use Rattle.tpm_types.specs.Alg.{alg_name, all_algs}
+use Rattle.tpm_quote.specs.declared.attest.NotSelected.{NotSelected}
+use Rattle.tpm_quote.specs.Attests.{is_among}
+use Rattle.tpm_event_data.specs.EventTypes.{event_type_name}
+use Rattle.tpm_event_data.specs.Events.{Shown}
+use Rattle.tpm_vouched.specs.declared.allowed.AllowedDigest.{AllowedDigest}
+use Rattle.tpm_vouched.specs.Allowed.{names, register_named}
+use Rattle.tpm_output.specs.declared.status.Status.TheVariants.{Done, Refused}
+use Rattle.tpm_output.specs.declared.status.Status.{Status}
+use Rattle.tpm_output.specs.Text.{line}
+use Rattle.tpm_check.specs.CheckAttest.{lacks_line}
+use Rattle.tpm_check.specs.Compare.{Verdict, no_register_text}
+use Rattle.tpm_check.specs.Extensions.{Extension, is_of, unknown_in}
+
+-- ---- a digest
+
+-- the name of a record's type, or its number in eight hexadecimal digits where it has none
+abbrev pub name_or_digits : Option (List ℕ) → (kind : ℕ) → List ℕ
+name_or_digits (Some name) kind = name
+name_or_digits None kind = encode_lower (to_be_bytes w32 kind)
+
+abbrev pub type_text : (kind : ℕ) → List ℕ
+type_text kind = name_or_digits (event_type_name kind) kind
+
+-- what stands before a digest that isn't on the list
+unfoldable pub unknown_begin : (json : Bool) → (bank : List ℕ) → (register at : ℕ) → List ℕ
+unknown_begin false bank register at =
+    codes "unknown " ++ (bank ++ (codes " " ++ (decimal register ++ (codes " at " ++ (decimal at ++ codes " ")))))
+unknown_begin true bank register at =
+    codes "{\"bank\":\"" ++ (bank ++ (codes "\",\"register\":" ++ (decimal register
+    ++ (codes ",\"allowed\":false,\"at\":" ++ (decimal at ++ codes ",\"digest\":\"")))))
+
+-- what stands between it and the record's type, and behind that
+abbrev pub type_begin : (json : Bool) → List ℕ
+type_begin false = codes " "
+type_begin true = codes "\",\"type\":\""
+
+abbrev pub type_end : (json : Bool) → List ℕ
+type_end false = codes "\n"
+type_end true = codes "\"}\n"
+
+abbrev pub unknown_text : (json : Bool) → Extension → List ℕ
+unknown_text json x =
+    unknown_begin json (alg_name x.bank) x.register x.at
+    ++ (encode_lower x.digest ++ (type_begin json ++ (type_text x.kind ++ type_end json)))
+
+-- where it is of this register of the bank
+abbrev pub unknown_if : (json : Bool) → Alg → (register : ℕ) → Extension → List ℕ
+unknown_if json bank register x = if is_of bank register x then unknown_text json x else []
+
+-- ---- a register
+
+-- that all digests are on the list
+unfoldable pub allowed_text : (json : Bool) → (bank : List ℕ) → (register : ℕ) → List ℕ
+allowed_text false bank register = line (codes "allowed" ∷ bank ∷ decimal register ∷ [])
+allowed_text true bank register =
+    codes "{\"bank\":\"" ++ (bank ++ (codes "\",\"register\":" ++ (decimal register ++ codes ",\"allowed\":true}\n")))
+
+-- a register that the list names, by all that aren't on it
+abbrev pub named_told : (json : Bool) → List Extension → Alg → (register : ℕ) → List ℕ
+named_told json found bank register =
+    if list_any (is_of bank register) found then flat_map (unknown_if json bank register) found
+    else allowed_text json (alg_name bank) register
+
+abbrev pub register_told : (json : Bool) → List AllowedDigest → List Extension → Alg → (register : ℕ) → List ℕ
+register_told json list found bank register =
+    if names list bank register then named_told json found bank register else []
+
+-- those of a bank's first registers, so many of them, which the list names
+abbrev pub bank_told : (json : Bool) → List AllowedDigest → List Extension → Alg → ℕ → List ℕ
+bank_told json list found bank zero = []
+bank_told json list found bank (suc n) =
+    bank_told json list found bank n ++ register_told json list found bank n
+
+abbrev pub banks_told : (json : Bool) → List AllowedDigest → List Extension → List ℕ
+banks_told json list found = flat_map (λ bank. bank_told json list found bank 24) all_algs
+
+-- ---- a list
+
+-- All was done where there is none.
+abbrev pub status_of_unknown : List Extension → Status
+status_of_unknown [] = Done
+status_of_unknown (x ∷ xs) = Refused
+
+abbrev pub on_records : (json : Bool) → List AllowedDigest → (size : ℕ) → List Shown → Verdict
+on_records json list size records = let found = unknown_in list size records in
+    record { status = status_of_unknown found; text = banks_told json list found }
+
+-- a register that the list names and that isn't selected
+unfoldable pub lacking_object : (bank : List ℕ) → (register : ℕ) → List ℕ
+lacking_object bank register =
+    codes "{\"selection\":\"lacks\",\"lacks\":{\"bank\":\""
+    ++ (bank ++ (codes "\",\"register\":" ++ (decimal register ++ codes "}}\n")))
+
+abbrev pub lacking_text : (json : Bool) → NotSelected → List ℕ
+lacking_text false r = lacks_line r
+lacking_text true r = lacking_object (alg_name r.bank) r.register
+
+-- the first of those, or else what is said of the records
+abbrev pub on_lacking : (json : Bool) → Option NotSelected → Verdict → Verdict
+on_lacking json (Some r) v = record { status = Refused; text = lacking_text json r }
+on_lacking json None v = v
+
+abbrev pub first_lacking : List AllowedDigest → List Selection → Option NotSelected
+first_lacking list quoted = find (λ r. not (is_among quoted r)) (map register_named list)
+
+-- a list without a digest, and any other
+abbrev pub on_list : (json : Bool) → List AllowedDigest → (lacking : Option NotSelected) → Verdict → Verdict
+on_list json [] lacking v = record { status = Refused; text = no_register_text json false }
+on_list json (digest ∷ digests) lacking v = on_lacking json lacking v
+
+-- where it has more bytes than one may have
+abbrev pub too_long_text : (json : Bool) → List ℕ
+too_long_text false = line (codes "list" ∷ codes "too" ∷ codes "long" ∷ [])
+too_long_text true = codes "{\"fault\":\"list too long\"}\n"

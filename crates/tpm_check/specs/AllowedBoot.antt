@@ -1,0 +1,97 @@
+-- What `check --attest --allow` prints of a log (this profile).
+use Rattle.std.specs.Prelude.{◌⊎◌, ℕ, Bool, true, false, nat_lt, List, [], length, map, Ok, Err}
+use Rattle.std.specs.Prelude.{IsPermutation}
+use Rattle.tpm_types.specs.declared.tpms.Selection.{Selection}
+use Rattle.tpm_pcr.specs.Registers.{Registers, value_in}
+use Rattle.tpm_log.specs.Changes.{AreAfter}
+use Rattle.tpm_log.specs.Events.{ParsedLog, Parses, shown}
+use Rattle.tpm_log.specs.Replays.{Replays}
+use Rattle.tpm_vouched.specs.declared.allowed.AllowedDigest.{AllowedDigest}
+use Rattle.tpm_vouched.specs.Order.{AreInOrder}
+use Rattle.tpm_options.specs.declared.CheckOptions.{CheckOptions}
+use Rattle.tpm_output.specs.declared.status.Status.TheVariants.{Done, Refused}
+use Rattle.tpm_output.specs.declared.status.Status.{Status}
+use Rattle.tpm_output.specs.InputLines.{most_bytes}
+use Rattle.tpm_check.specs.AllowLines.{AllowRead, allowed_in}
+use Rattle.tpm_check.specs.AllowTold.{first_lacking, on_list, on_records, too_long_text}
+use Rattle.tpm_check.specs.CheckAttest.{ChecksAttest, Says, behind}
+use Rattle.tpm_check.specs.Compare.{Verdict, beside, not_a_register_text, printed}
+use Rattle.tpm_check.specs.QuotedBoot.{OnDone, Selects}
+use Rattle.tpm_check.specs.SecureBootLines.{TellsFault, ended, on_log, quoted_banks}
+
+-- ---- a list
+
+-- what a list is held against: what a quote selects, and the log beside which it is the one that was asked for
+pub record VouchedLog : Type 0 where
+  pub json : Bool
+  pub selections : List Selection
+  pub log : ParsedLog
+
+abbrev pub on_digests : VouchedLog → List AllowedDigest → Verdict
+on_digests q list =
+    on_list q.json list (first_lacking list q.selections) (on_records q.json list q.log.size (map shown q.log.records))
+
+abbrev pub refused : List ℕ → Verdict
+refused text = record { status = Refused; text = text }
+
+-- Of a list its digests in their order, or else the first line that is wrong.
+abbrev pub SaysOfRead : VouchedLog → AllowRead → Verdict → Type 0
+SaysOfRead q (Ok digests) v =
+    (list : List AllowedDigest)
+    × IsPermutation digests list
+    × AreInOrder list
+    × Says (on_digests q list) v.status v.text
+SaysOfRead q (Err number) v = Says (refused (not_a_register_text q.json number)) v.status v.text
+
+-- The one holds of a list that is too long, and else the other.
+abbrev pub OnLong : (is_long : Bool) → Type 0 → Type 0 → Type 0
+OnLong true P Q = P
+OnLong false P Q = Q
+
+abbrev pub SaysOfList : VouchedLog → List ℕ → Verdict → Type 0
+SaysOfList q bytes v =
+    OnLong (nat_lt most_bytes (length bytes))
+    (Says (refused (too_long_text q.json)) v.status v.text)
+    (SaysOfRead q (allowed_in bytes) v)
+
+-- ---- a log
+
+-- whether Secure Boot was on, where that is asked for
+abbrev pub boot_if : (asked : Bool) → Verdict → Verdict
+boot_if false v = record { status = Done; text = [] }
+boot_if true v = v
+
+abbrev pub on_boot : CheckOptions → List Selection → ParsedLog → Verdict
+on_boot o selections l = boot_if o.secure_boot (on_log o l.size (map shown l.records) (quoted_banks selections))
+
+-- the bytes of a quote as it was signed, and those of a list
+pub record AllowFiles : Type 0 where
+  pub attest : List ℕ
+  pub allow : List ℕ
+
+-- Behind a quote that is the one asked for come whether Secure Boot was on, where that is asked for, and what is said
+-- beside the list.
+abbrev pub SaysBehind : CheckOptions → AllowFiles → ParsedLog → Verdict → Type 0
+SaysBehind o g l v =
+    (selections : List Selection) × (last : Verdict)
+    × Selects g.attest selections
+    × SaysOfList (record { json = o.json; selections = selections; log = l }) g.allow last
+    × Says (behind (on_boot o selections l) last) v.status v.text
+
+-- What the quote says beside the registers that the log gives comes first, and behind any other quote nothing.
+abbrev pub SaysOfAllowed : CheckOptions → AllowFiles → Registers → ParsedLog → Verdict → Type 0
+SaysOfAllowed o g found l v =
+    (first : Verdict)
+    × ChecksAttest (beside o.json (value_in found.banks)) o g.attest first
+    × OnDone first.status
+    ((second : Verdict) × SaysBehind o g l second × Says (ended o.json (behind first second)) v.status v.text)
+    (Says (ended o.json first) v.status v.text)
+
+-- That is printed of a log, and else its fault. Behind that stands the status, where it is told as objects.
+abbrev pub ChecksAllowed : CheckOptions → AllowFiles → List ℕ → Status → List ℕ → Type 0
+ChecksAllowed o g bytes status text =
+    ((l : ParsedLog) × (found : Registers)
+    × Parses bytes (Ok l)
+    × Replays AreAfter bytes (Ok found)
+    × SaysOfAllowed o g found l (printed status text))
+    ⊎ TellsFault o.json bytes status text

@@ -1,0 +1,138 @@
+//! The lines of a list of allowed digests.
+
+ghost use Rattle.std.specs.Prelude.{◌≡◌, ◌<◌, ◌≤◌, ◌∷◌, IfOk, IfSome, length, option_map, position};
+ghost use Rattle.std.specs.List.{slice_split};
+ghost use Rattle.tpm_output.specs.Text.{bytes_in};
+ghost use Rattle.tpm_check.specs.AllowLines.{allow_line, allowed_in, allowing, allowing_in, before_comment};
+ghost use Rattle.tpm_check.specs.AllowLines.{begins_comment, is_blank, is_feed};
+ghost use Rattle.tpm_check.specs.inner.AllowReading.{lines_left, read_as};
+
+use crate::stated::{bank_named, cut, register_named};
+use std::alloc::{AllocError, Global};
+use tpm_output::hexadecimal::decoded;
+use tpm_types::{Alg, HashedDigest, PcrIndex};
+use tpm_vouched::AllowedDigest;
+
+/// What a line says.
+#[derive(Drop)]
+pub(crate) enum AllowLine {
+    /// A digest by which a register may be extended.
+    Allows(AllowedDigest),
+    /// Nothing: it has no word before a comment.
+    Nothing,
+    /// None of these.
+    Wrong,
+}
+
+// What hexadecimal digits allow, where they spell a digest of the bank.
+fn read_digest(
+    alloc: Global,
+    bank: Alg,
+    register: PcrIndex,
+    digits: &[u8],
+) -> Result<AllowLine, AllocError>
+    ensures { IfOk result (λ line. line ≡ allowing bank register (bytes_in digits.now)) }
+{
+    let Some(bytes) = decoded(alloc, digits)? else {
+        return Ok(AllowLine::Wrong);
+    };
+    match HashedDigest::new(bank, bytes.as_slice()) {
+        Some(digest) => Ok(AllowLine::Allows(AllowedDigest { register, digest })),
+        None => Ok(AllowLine::Wrong),
+    }
+}
+
+// What the words of a line say.
+fn read_words(alloc: Global, text: &[u8]) -> Result<AllowLine, AllocError>
+    ensures { IfOk result (λ line. line ≡ allowing_in text.now) }
+{
+    let (bank, behind) = cut(text);
+    let (register, behind) = cut(behind);
+    let (digits, _) = cut(behind);
+    let Some(bank) = bank_named(bank) else {
+        return Ok(AllowLine::Wrong);
+    };
+    let Some(register) = register_named(register) else {
+        return Ok(AllowLine::Wrong);
+    };
+    read_digest(alloc, bank, register, digits)
+}
+
+fn comment_in(line: &[u8]) -> Option<usize>
+    ensures { result ≡ position begins_comment line.now }
+{
+    line.iter().position(|byte| *byte == b'#')
+}
+
+fn before_comment(line: &[u8]) -> &[u8]
+    ensures { result.now ≡ before_comment line.now }
+{
+    match comment_in(line) {
+        Some(at) => &line[..at],
+        None => line,
+    }
+}
+
+fn is_blank(text: &[u8]) -> bool
+    ensures { result ≡ is_blank text.now }
+{
+    text.iter().all(|byte| *byte == b' ')
+}
+
+fn read_line(alloc: Global, line: &[u8]) -> Result<AllowLine, AllocError>
+    ensures { IfOk result (λ read. read ≡ allow_line line.now) }
+{
+    let text = before_comment(line);
+    if is_blank(text) {
+        return Ok(AllowLine::Nothing);
+    }
+    read_words(alloc, text)
+}
+
+fn first_feed(bytes: &[u8]) -> Option<usize>
+    ensures { result ≡ position is_feed bytes.now }
+{
+    bytes.iter().position(|byte| *byte == b'\n')
+}
+
+// The first line, and what stands behind its line feed, where it has one.
+#[tactic(auto, using(crate::proofs::AllowReading::cut_at, crate::proofs::AllowReading::cut_none))]
+fn cut_line(bytes: &[u8]) -> (&[u8], Option<&[u8]>)
+    ensures lines { slice_split is_feed bytes.now
+        ≡ result.0.now ∷ lines_left (option_map (λ b. b.now) result.1) }
+    ensures shorter { IfSome result.1 (λ behind. length behind.now < length bytes.now) }
+{
+    match first_feed(bytes) {
+        Some(at) => (&bytes[..at], Some(&bytes[at + 1..])),
+        None => (bytes, None),
+    }
+}
+
+/// The digests of a list, or the number of the first line that is wrong.
+///
+/// A line has a bank, the number of a register in decimal, and a digest in as many hexadecimal digits as those of the
+/// bank's hash have, with one space between them. Words behind the digest say nothing. A comment begins with `#`, and a
+/// line without words before it says nothing either. AllocError where a request for memory is refused.
+#[tactic(auto, using(crate::proofs::AllowReading::one_more, crate::proofs::AllowReading::to_end))]
+pub(crate) fn read_allowed(
+    alloc: Global,
+    bytes: &[u8],
+) -> Result<Result<Vec<AllowedDigest>, u64>, AllocError>
+    requires { length bytes.now ≤ 16777216 }
+    ensures { IfOk result (λ read. read_as read ≡ allowed_in bytes.now) }
+{
+    let mut found = Vec::new(alloc);
+    let mut number = 0;
+    let mut left = Some(bytes);
+    while let Some(lines) = left {
+        let (line, behind) = cut_line(lines);
+        number += 1;
+        match read_line(alloc, line)? {
+            AllowLine::Allows(digest) => found.push(digest)?,
+            AllowLine::Nothing => {}
+            AllowLine::Wrong => return Ok(Err(number)),
+        }
+        left = behind;
+    }
+    Ok(Ok(found))
+}

@@ -1,0 +1,246 @@
+//! The subcommand `check` of a list of allowed digests, beside a quote as it was signed.
+
+ghost use Rattle.std.specs.Prelude.{◌≡◌, ℕ, List, Ok, IfOk, IsErrOf, string_bytes};
+ghost use Rattle.std.specs.Io.KnownBytes.{Appends};
+ghost use Rattle.tpm_wire.specs.Sources.{IsWhereItFailed};
+ghost use Rattle.tpm_output.specs.declared.fault.ToolFault.TheVariants.{InputTooLong, Read};
+ghost use Rattle.tpm_output.specs.declared.status.Status.TheVariants.{Refused};
+ghost use Rattle.tpm_output.specs.Faults.{FailsByMemoryOrWrite};
+ghost use Rattle.tpm_output.specs.InputLines.{CountsRead};
+ghost use Rattle.tpm_output.specs.Reads.{ReadsNoMore, ReadsUpTo};
+ghost use Rattle.tpm_events.specs.ListEvents.{most_read};
+ghost use Rattle.tpm_check.specs.AllowTold.{too_long_text};
+ghost use Rattle.tpm_check.specs.AllowedBoot.{ChecksAllowed, SaysBehind, SaysOfAllowed, SaysOfList, SaysOfRead};
+ghost use Rattle.tpm_check.specs.AllowedBoot.{on_boot};
+ghost use Rattle.tpm_check.specs.CheckAttest.{Adds};
+ghost use Rattle.tpm_check.specs.Compare.{Verdict, not_a_register_text, printed};
+
+use crate::allow_lines::read_allowed;
+use crate::allow_told::push_beside_list;
+use crate::beside::Beside;
+use crate::check_json::ok_text;
+use crate::checked::tell_fault;
+use crate::compared::{MOST_BYTES, no_register_text};
+use crate::judged::answer_to_attest;
+use crate::quoted_boot::{quoted_banks, selected};
+use crate::register_text::push_not_a_register;
+use crate::told_secure_boot::push_log;
+use std::alloc::{AllocError, Global};
+use std::io::Write;
+use tpm_events::listed_events::MOST_READ;
+use tpm_log::{Log, replay};
+use tpm_options::CheckOptions;
+use tpm_output::answer::Answer;
+use tpm_output::fault::ToolFault;
+use tpm_output::reads::read_up_to;
+use tpm_output::status::Status;
+use tpm_pcr::Registers;
+use tpm_types::Selections;
+use tpm_vouched::{AllowList, AllowedDigest};
+use tpm_wire::Source;
+
+// What is printed of a log beside these digests.
+fn answer_to_digests(
+    alloc: Global,
+    json: bool,
+    digests: Vec<AllowedDigest>,
+    quoted: &Selections,
+    log: &Log<'_>,
+) -> Result<Answer, AllocError>
+    ensures { IfOk result (λ a. SaysOfRead
+        (record { json = json; selections = quoted.now; log = log.now }) (Ok digests.items)
+        (printed a.status (string_bytes a.text))) }
+{
+    let mut digests = digests;
+    let list = AllowList::new(digests.as_mut_slice());
+    if let [] = list.digests() {
+        return Answer::of(alloc, Status::Refused, no_register_text(json, false));
+    }
+    let mut text = String::new(alloc);
+    let status = push_beside_list(alloc, &mut text, json, &list, quoted, log)?;
+    Ok(Answer { status, text })
+}
+
+// That the line of this number is wrong.
+fn wrong_line(alloc: Global, json: bool, number: u64) -> Result<Answer, AllocError>
+    ensures { IfOk result (λ a. (a.status ≡ Refused)
+        × (string_bytes a.text ≡ not_a_register_text json number)) }
+{
+    let mut text = String::new(alloc);
+    push_not_a_register(&mut text, json, number)?;
+    Ok(Answer::refused(text))
+}
+
+fn too_long_text(json: bool) -> &'static str
+    ensures { result.now ≡ too_long_text json }
+{
+    if json {
+        "{\"fault\":\"list too long\"}\n"
+    } else {
+        "list too long\n"
+    }
+}
+
+// What is printed of a log beside the bytes of a list.
+fn answer_to_list(
+    alloc: Global,
+    json: bool,
+    bytes: &[u8],
+    quoted: &Selections,
+    log: &Log<'_>,
+) -> Result<Answer, AllocError>
+    ensures { IfOk result (λ a. SaysOfList
+        (record { json = json; selections = quoted.now; log = log.now }) bytes.now
+        (printed a.status (string_bytes a.text))) }
+{
+    if bytes.len() > MOST_BYTES {
+        return Answer::of(alloc, Status::Refused, too_long_text(json));
+    }
+    match read_allowed(alloc, bytes)? {
+        Ok(digests) => answer_to_digests(alloc, json, digests, quoted, log),
+        Err(number) => wrong_line(alloc, json, number),
+    }
+}
+
+// Adds whether Secure Boot was on, where that is asked for, in the banks whose register 7 a quote selects.
+fn push_boot(
+    alloc: Global,
+    text: &mut String,
+    options: &CheckOptions<'_>,
+    quoted: &Selections,
+    log: &Log<'_>,
+) -> Result<Status, AllocError>
+    ensures { IfOk result (λ status. Adds (on_boot options.now quoted.now log.now) status
+        (string_bytes text.old) (string_bytes text.new)) }
+{
+    if !options.secure_boot {
+        return Ok(Status::Done);
+    }
+    let banks = quoted_banks(quoted.as_slice());
+    push_log(alloc, text, options, log, banks.as_slice())
+}
+
+// Adds what is said behind a quote that is the one asked for.
+fn push_behind(
+    alloc: Global,
+    text: &mut String,
+    options: &CheckOptions<'_>,
+    attest: &[u8],
+    allow: &[u8],
+    log: &Log<'_>,
+) -> Result<Status, AllocError>
+    ensures { IfOk result (λ status. (second : Verdict)
+        × SaysBehind options.now (record { attest = attest.now; allow = allow.now }) log.now second
+        × Adds second status (string_bytes text.old) (string_bytes text.new)) }
+{
+    let quoted = selected(attest);
+    let boot = push_boot(alloc, text, options, &quoted, log)?;
+    let last = answer_to_list(alloc, options.json, allow, &quoted, log)?;
+    text.push_str(last.text.as_str())?;
+    Ok(boot.both(last.status))
+}
+
+// What is printed of a log, which gives these registers, beside a quote and a list.
+fn answer_to_allowed(
+    alloc: Global,
+    options: &CheckOptions<'_>,
+    attest: &[u8],
+    allow: &[u8],
+    registers: &Registers,
+    log: &Log<'_>,
+) -> Result<Answer, AllocError>
+    ensures { IfOk result (λ a. SaysOfAllowed options.now
+        (record { attest = attest.now; allow = allow.now }) registers.now log.now
+        (printed a.status (string_bytes a.text))) }
+{
+    let json = options.json;
+    let first = answer_to_attest(alloc, &Beside { registers, json }, options, attest)?;
+    let mut text = first.text;
+    if first.status == Status::Refused {
+        text.push_str(ok_text(json, Status::Refused))?;
+        return Ok(Answer::refused(text));
+    }
+    let status = push_behind(alloc, &mut text, options, attest, allow, log)?;
+    text.push_str(ok_text(json, status))?;
+    Ok(Answer { status, text })
+}
+
+// Prints what is said of a log beside a quote and a list, or its fault.
+fn print_allowed<W: Write>(
+    alloc: Global,
+    options: &CheckOptions<'_>,
+    attest: &[u8],
+    allow: &[u8],
+    bytes: &[u8],
+    out: &mut W,
+) -> Result<Status, ToolFault>
+    ensures ok { IfOk result (λ status. (text : List ℕ)
+        × ChecksAllowed options.now (record { attest = attest.now; allow = allow.now })
+        bytes.now status text
+        × Appends (W.contents out.old) (W.contents out.new) text) }
+    ensures err { FailsByMemoryOrWrite result }
+{
+    let registers = match replay(bytes) {
+        Ok(registers) => registers,
+        Err(fault) => return tell_fault(alloc, options.json, &fault, out),
+    };
+    match Log::parse(bytes) {
+        Ok(log) => {
+            answer_to_allowed(alloc, options, attest, allow, &registers, &log)?.print(out)
+        }
+        Err(fault) => tell_fault(alloc, options.json, &fault, out),
+    }
+}
+
+/// Prints whether all digests by which a log extends registers are on a list, of the registers that the list names,
+/// beside the bytes of a quote as it was signed.
+///
+/// What `check_log` prints of such a quote comes first. A quote that is not the one asked for ends the output, since it
+/// vouches for nothing. Behind it comes what `check_secure_boot` says of the banks whose register 7 the quote selects,
+/// where that is asked for too. The log is read and replayed once, so that all is told of the very log whose registers
+/// were compared.
+///
+/// The list's lines are `BANK I DIGEST`, with as many words behind as one likes, several for one register; `#` begins a
+/// comment, and what is before it may be blank. `selection lacks BANK I` is printed for the first register of a bank
+/// that the list names and the quote doesn't select, and ends the output. Else for each register that the list names,
+/// by bank and number, comes `allowed BANK I`, where all digests by which the log extends it are on the list; or for
+/// each that isn't `unknown BANK I at N DIGEST TYPE`, with how many bytes precede its record, and the name of the
+/// record's type, or its number in eight hexadecimal digits. A line that is none is `line N: not a register`, a list
+/// without a digest `no register`, and one of more than 16,777,216 bytes `list too long`; each of these is told in
+/// place of all that is said of the list.
+///
+/// As JSON a register that is allowed is an object of `bank`, `register` and `allowed`, which is true; a digest that
+/// isn't on the list one of `bank`, `register`, `allowed`, which is false, `at`, `digest` and `type`. A register that
+/// is lacking is one of `selection`, which is `lacks`, and `lacks`, its `bank` and its `register`. What is wrong with
+/// the list is `fault`, with `line` where there is one. The last object is `ok`, whether the status is `Done`.
+///
+/// The status is `Done` where all that was asked for is so, and the list names a register. Then `AllowList::unknown` is
+/// none for each record of the log, so each digest by which it extends a register that the list names is on the list
+/// (`tpm_vouched::laws::allowed_by_the_log`); and that holds of every log beside which the quote is the one asked for
+/// (`tpm_vouched::laws::allowed_by_the_quote`, with its premises).
+///
+/// A log that has a fault gives `log KIND at N` alone, or the object of `fault` and `at`. Whatever is answered, at most
+/// 16,777,217 bytes are read, one more than a log may have. Where a request for memory is refused the answer is
+/// `Memory`, where a read fails `Read`, and where the writer fails `Write`. What was written before is then left open,
+/// and a failed read isn't tried again.
+pub fn check_allowed<L: Source, W: Write>(
+    alloc: Global,
+    log: &mut L,
+    options: &CheckOptions<'_>,
+    attest: &[u8],
+    allow: &[u8],
+    out: &mut W,
+) -> Result<Status, ToolFault>
+    ensures failures { CountsRead (L.failed log.old) (L.failed log.new) result }
+    ensures stop { IsErrOf result Read → IsWhereItFailed (L.stopped log.new) }
+    ensures most { ReadsNoMore most_read (L.coming log.old) (L.coming log.new) }
+    ensures ok { IfOk result (λ status. (bytes : List ℕ) × (text : List ℕ)
+        × ReadsUpTo most_read (L.coming log.old) (L.coming log.new) bytes
+        × ChecksAllowed options.now (record { attest = attest.now; allow = allow.now })
+        bytes status text
+        × Appends (W.contents out.old) (W.contents out.new) text) }
+    ensures short { IsErrOf result InputTooLong → ⊥ }
+{
+    let bytes = read_up_to(alloc, log, MOST_READ)?;
+    print_allowed(alloc, options, attest, allow, bytes.as_slice(), out)
+}

@@ -1,0 +1,158 @@
+//! The subcommand `events` beside a quote as it was signed.
+
+ghost use Rattle.std.specs.Prelude.{◌≡◌, ℕ, List, Some, map, IfOk, IsErrOf, string_bytes};
+ghost use Rattle.std.specs.Io.KnownBytes.{Appends};
+ghost use Rattle.tpm_log.specs.Events.{shown};
+ghost use Rattle.tpm_pcr.specs.Registers.{value_in};
+ghost use Rattle.tpm_wire.specs.Sources.{IsWhereItFailed};
+ghost use Rattle.tpm_output.specs.declared.fault.ToolFault.TheVariants.{InputTooLong, Read};
+ghost use Rattle.tpm_output.specs.Faults.{FailsByMemoryOrWrite};
+ghost use Rattle.tpm_output.specs.InputLines.{CountsRead};
+ghost use Rattle.tpm_output.specs.Reads.{ReadsNoMore, ReadsUpTo};
+ghost use Rattle.tpm_events.specs.ListEvents.{events_from, most_read};
+ghost use Rattle.tpm_check.specs.CheckAttest.{ChecksAttest, Says};
+ghost use Rattle.tpm_check.specs.Compare.{Verdict, beside, printed};
+ghost use Rattle.tpm_check.specs.SecureBootLines.{ended};
+ghost use Rattle.tpm_check.specs.VouchedEvents.{IsFollowed, ListsVouched};
+
+use crate::beside::Beside;
+use crate::check_json::ok_text;
+use crate::checked::tell_fault;
+use crate::judged::answer_to_attest;
+use crate::quoted_boot::selected;
+use std::alloc::{AllocError, Global};
+use std::io::Write;
+use tpm_events::listed_events::MOST_READ;
+use tpm_events::{Listing, print_events};
+use tpm_log::{Log, replay};
+use tpm_options::CheckOptions;
+use tpm_output::answer::Answer;
+use tpm_output::fault::ToolFault;
+use tpm_output::reads::read_up_to;
+use tpm_output::status::Status;
+use tpm_wire::Source;
+
+// What is printed of a quote beside registers, and its status behind it where that is told.
+fn answer_to_end(
+    alloc: Global,
+    found: &Beside<'_>,
+    options: &CheckOptions<'_>,
+    attest: &[u8],
+) -> Result<Answer, AllocError>
+    ensures { IfOk result (λ a. (said : Verdict)
+        × ChecksAttest (beside found.now.json (value_in found.now.registers.now.banks))
+        options.now attest.now said
+        × Says (ended found.now.json said) a.status (string_bytes a.text)) }
+{
+    let said = answer_to_attest(alloc, found, options, attest)?;
+    let mut text = said.text;
+    text.push_str(ok_text(found.json, said.status))?;
+    Ok(Answer {
+        status: said.status,
+        text,
+    })
+}
+
+// Prints what is said of a quote, and behind one that is the one asked for the records of a log, with what it vouches
+// for in each.
+fn print_behind<W: Write>(
+    alloc: Global,
+    listing: Listing<'_>,
+    said: &Answer,
+    attest: &[u8],
+    log: &Log<'_>,
+    out: &mut W,
+) -> Result<Status, ToolFault>
+    ensures ok { IfOk result (λ status. (text : List ℕ)
+        × IsFollowed attest.now
+        (λ selections. events_from listing.entry (Some selections) log.now.size 1
+        (map shown log.now.records))
+        (printed said.now.status (string_bytes said.now.text)) (printed status text)
+        × Appends (W.contents out.old) (W.contents out.new) text) }
+    ensures err { FailsByMemoryOrWrite result }
+{
+    match said.print(out)? {
+        Status::Refused => Ok(Status::Refused),
+        Status::Done => {
+            let selections = selected(attest);
+            print_events(alloc, listing, log, Some(selections.as_slice()), out)?;
+            Ok(Status::Done)
+        }
+    }
+}
+
+// Prints this of the log that these bytes are, or its fault.
+fn print_vouched<W: Write>(
+    alloc: Global,
+    listing: Listing<'_>,
+    options: &CheckOptions<'_>,
+    attest: &[u8],
+    bytes: &[u8],
+    out: &mut W,
+) -> Result<Status, ToolFault>
+    ensures ok { IfOk result (λ status. (text : List ℕ) × ListsVouched (record {
+      listing = listing.entry;
+      attest = attest.now;
+      options = options.now;
+    }) bytes.now status text
+        × Appends (W.contents out.old) (W.contents out.new) text) }
+    ensures err { FailsByMemoryOrWrite result }
+{
+    let json = listing.json;
+    let registers = match replay(bytes) {
+        Ok(registers) => registers,
+        Err(fault) => return tell_fault(alloc, json, &fault, out),
+    };
+    let found = Beside {
+        registers: &registers,
+        json,
+    };
+    let said = answer_to_end(alloc, &found, options, attest)?;
+    match Log::parse(bytes) {
+        Ok(log) => print_behind(alloc, listing, &said, attest, &log, out),
+        Err(fault) => tell_fault(alloc, json, &fault, out),
+    }
+}
+
+/// Prints what the bytes of a quote as it was signed say beside the registers that a log gives, as `check_log` does.
+/// Behind a quote that is the one asked for it prints the records, as `list_events` does, each with what the quote
+/// vouches for (`tpm_events::print_events`). Any other ends the output, with the status `Refused`, since it vouches for
+/// nothing. The log is read once, so that what is vouched for is told of the very log whose registers were compared.
+///
+/// What `vouched` means is the law of `tpm_vouched::laws::vouched_of_the_log` with `records_of_the_quote`: of two logs
+/// beside which one quote is the one that was asked for, the records of a register that it selects measured the same,
+/// one by one, and what both tell as vouched of their data is the same text. So it is not what somebody put into the
+/// log behind the measurement. Of `digest` it is the digest alone. No record's type is vouched for.
+///
+/// As JSON the quote's object comes first, then `ok`, whether it is the one asked for, and then an object for each
+/// record, which has the member `vouched`.
+///
+/// A log that has a fault gives that alone, as `check_log` prints it, and the status `Refused`. Whatever is answered,
+/// at most 16,777,217 bytes are read, one more than a log may have. Whether objects are printed is by the listing.
+///
+/// Where a request for memory is refused the answer is `Memory`, where a read fails `Read`, and where the writer fails
+/// `Write`. What was written before is then left open, and a failed read isn't tried again. The whole log is held.
+pub fn list_vouched<L: Source, W: Write>(
+    alloc: Global,
+    log: &mut L,
+    listing: Listing<'_>,
+    options: &CheckOptions<'_>,
+    attest: &[u8],
+    out: &mut W,
+) -> Result<Status, ToolFault>
+    ensures failures { CountsRead (L.failed log.old) (L.failed log.new) result }
+    ensures stop { IsErrOf result Read → IsWhereItFailed (L.stopped log.new) }
+    ensures most { ReadsNoMore most_read (L.coming log.old) (L.coming log.new) }
+    ensures ok { IfOk result (λ status. (bytes : List ℕ) × (text : List ℕ)
+        × ReadsUpTo most_read (L.coming log.old) (L.coming log.new) bytes
+        × ListsVouched (record {
+          listing = listing.entry;
+          attest = attest.now;
+          options = options.now;
+        }) bytes status text
+        × Appends (W.contents out.old) (W.contents out.new) text) }
+    ensures short { IsErrOf result InputTooLong → ⊥ }
+{
+    let bytes = read_up_to(alloc, log, MOST_READ)?;
+    print_vouched(alloc, listing, options, attest, bytes.as_slice(), out)
+}
