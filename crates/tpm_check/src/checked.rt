@@ -32,6 +32,7 @@ use tpm_options::CheckOptions;
 use tpm_output::answer::write;
 use tpm_output::fault::ToolFault;
 use tpm_output::status::Status;
+use tpm_output::written::put;
 use tpm_wire::Source;
 
 /// Prints the fault of a log, and the status where it is told.
@@ -56,10 +57,8 @@ fn print_ok<W: Write>(json: bool, status: Status, out: &mut W) -> Result<Status,
         × Appends (W.contents out.old) (W.contents out.new) (ok_text json status)) }
     ensures err { FailsByMemoryOrWrite result }
 {
-    match out.write_all(ok_text(json, status).as_bytes()) {
-        Ok(()) => Ok(status),
-        Err(_) => Err(ToolFault::Write),
-    }
+    put(out, ok_text(json, status))?;
+    Ok(status)
 }
 
 fn print_registers<W: Write>(
@@ -148,6 +147,7 @@ fn print_compared<F: Source, W: Write>(
         × Appends (W.contents out.old) (W.contents out.new) text) }
     ensures too_long { IsErrOf result InputTooLong
         → ReadsTooMuchIfList (option_map F.coming list.old) (option_map F.coming list.new) }
+    ensures there { is_some list.new ≡ is_some list.old }
 {
     let others = is_compared(attest, list);
     let first = print_signed(alloc, found, options, attest, out)?;
@@ -180,6 +180,7 @@ fn print_to_end<F: Source, W: Write>(
         × Appends (W.contents out.old) (W.contents out.new) text) }
     ensures too_long { IsErrOf result InputTooLong
         → ReadsTooMuchIfList (option_map F.coming list.old) (option_map F.coming list.new) }
+    ensures there { is_some list.new ≡ is_some list.old }
 {
     let status = print_compared(alloc, found, options, attest, list, out)?;
     print_ok(found.json, status, out)
@@ -263,6 +264,7 @@ pub fn check_log<L: Source, F: Source, W: Write>(
         × Appends (W.contents out.old) (W.contents out.new) text) }
     ensures too_long { IsErrOf result InputTooLong
         → ReadsTooMuchIfList (option_map F.coming list.old) (option_map F.coming list.new) }
+    ensures there { is_some list.new ≡ is_some list.old }
 {
     let found = match replay_from(log) {
         Ok(found) => found,

@@ -4,7 +4,7 @@ ghost use Rattle.std.specs.Prelude.{◌≡◌, ℕ, List, IfErr, IfOk, IsErrOf, 
 ghost use Rattle.std.specs.Io.KnownBytes.{Appends};
 ghost use Rattle.tpm_output.specs.declared.fault.ToolFault.TheVariants.{InputTooLong};
 ghost use Rattle.tpm_output.specs.Reads.{most_attest};
-ghost use Rattle.tpm_check.specs.Check.{ReadsTooMuchIfList};
+ghost use Rattle.tpm_check.specs.Check.{CountsReads, ReadsTooMuchIfList, failures_of};
 ghost use Rattle.tpm_events.specs.ListEvents.{most_read};
 ghost use Rattle.tpm_args.specs.declared.task.Task.TheVariants.{Check, Events};
 ghost use Rattle.tpm_program.specs.Offered.{OfFile};
@@ -166,6 +166,12 @@ fn check_opened<S: Source, W: Write>(
     out: &mut W,
 ) -> Result<Status, ToolFault>
     requires { S.failed log.old ≡ 0 }
+    ensures failures { CountsReads (record {
+      log = S.failed log.old;
+      log-behind = S.failed log.new;
+      list = failures_of S.failed list.old;
+      list-behind = failures_of S.failed list.new;
+    }) result }
     ensures ok { IfOk result (λ status. (text : List ℕ)
         × PrintsChecked (record {
           log = S.coming log.old;

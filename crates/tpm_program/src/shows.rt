@@ -3,6 +3,7 @@
 ghost use Rattle.std.specs.Prelude.{ℕ, List, Option, None, Some, IfOk, IfErr, IsErrOf};
 ghost use Rattle.std.specs.Io.KnownBytes.{Appends};
 ghost use Rattle.tpm_output.specs.declared.fault.ToolFault.TheVariants.{InputTooLong};
+ghost use Rattle.tpm_output.specs.InputLines.{CountsRead};
 ghost use Rattle.tpm_show.specs.Capture.{ReadsTooMuchCapture};
 ghost use Rattle.tpm_args.specs.declared.task.Task.TheVariants.{Run, ShowCapture, ShowNv, ShowPackets};
 ghost use Rattle.tpm_program.specs.Performs.{Performs, TellsFrames, form_of};
@@ -33,6 +34,7 @@ fn show_frames<S: Source, W: Write>(
     binary: bool,
     how: Telling,
 ) -> Result<Status, ToolFault>
+    ensures failures { CountsRead (S.failed input.old) (S.failed input.new) result }
     ensures ok { IfOk result (λ status. (text : List ℕ)
         × TellsFrames (form_of binary how) (S.coming input.old) status text
         × Appends (W.contents out.old) (W.contents out.new) text) }
@@ -85,7 +87,10 @@ fn show_input<'a, I: Inputs, W: Write>(
         Fails (I.offers inputs.now) (ShowCapture None binary how.fields how.json) fault) }
 {
     let mut input = inputs.standard();
-    Ok(show_frames(alloc, &mut input, out, binary, how)?)
+    match show_frames(alloc, &mut input, out, binary, how) {
+        Ok(status) => Ok(status),
+        Err(fault) => Err(Fault::Tool(fault)),
+    }
 }
 
 /// Tells the frames of a capture, in a file or, where there is no path, on standard input.
@@ -168,5 +173,8 @@ pub(crate) fn run_input<'a, I: Inputs, W: Write>(
 {
     let device = Device::new(owner, greatest);
     let mut script = inputs.standard();
-    Ok(run_script(alloc, &mut script, out, device)?)
+    match run_script(alloc, &mut script, out, device) {
+        Ok(status) => Ok(status),
+        Err(fault) => Err(Fault::Tool(fault)),
+    }
 }

@@ -1,6 +1,8 @@
 use Rattle.std.proofs.Common.{rules, ℕ, List, Option, option_map, subst}
+use Rattle.tpm_check.specs.Check.{failures_of}
 use Rattle.tpm_program.specs.Performs.{OfAllow, OfAttest, Opened, PrintsAsked}
 use Rattle.tpm_program.proofs.Checks.{list_not_read_if, of_allow_if, of_attest_if, of_if}
+use Rattle.tpm_program.proofs.Reading.{by_sources}
 use Rattle.tpm_program.proofs.logs.check.Goals as goal
 
 pub returns-in-Ok-clause-ok : goal.returns-in-Ok-clause-ok
@@ -44,3 +46,10 @@ returns-in_err-allow-clause-err g c =
     c.in_err-allow.field-0.0 (g.I.Source.Source.coming c.in_ok-log.log, c.in_ok-log.ensures.opened)
     c.in_ok-list.ensures.opened c.in_ok-attest.ensures.ok c.in_err-allow.ensures.err in
     search (rules, fails)
+
+pub of_reading-requires : goal.of_reading-requires
+of_reading-requires g c =
+    let failed = g.I.Source.Source.failed in
+    let opened = c.check_opened.new in
+    by_sources failed c.in_ok-log.ensures.fails (failed c.in_ok-log.log) (failures_of failed c.in_ok-list.list) opened.log opened.list c.in-Err.fault
+    c.in-Err.ensures.failures

@@ -1,4 +1,6 @@
 use Rattle.tpm_program.proofs.Checks.{by_false, if_counted, replayed}
+use Rattle.tpm_check.specs.Check.{failures_of}
+use Rattle.tpm_program.proofs.Reading.{log_alone}
 use Rattle.tpm_program.proofs.logs.check_opened.Goals as goal
 
 pub returns-else-options-clause-ok : goal.returns-else-options-clause-ok
@@ -17,3 +19,9 @@ returns-else-options-clause-ok g c =
       ),
       said.5,
     ))
+
+pub returns-then-options-clause-failures : goal.returns-then-options-clause-failures
+returns-then-options-clause-failures g c =
+    let failed = g.S.Source.failed in
+    log_alone (failed c.args.log.now) (failed c.check_secure_boot.new.log) (failures_of failed c.args.list.now) c.check_secure_boot.result
+    c.check_secure_boot.ensures.failures

@@ -2,6 +2,7 @@ use Rattle.std.proofs.Common.{ℕ, List, Option, option_map, subst}
 use Rattle.tpm_events.specs.ListEvents.{most_read}
 use Rattle.tpm_program.specs.Performs.{OfFirst, PrintsEvents}
 use Rattle.tpm_program.proofs.Checks.{of_attest_if}
+use Rattle.tpm_program.proofs.Reading.{by_source}
 use Rattle.tpm_program.proofs.logs.events.Goals as goal
 
 pub returns-in-Ok-clause-ok : goal.returns-in-Ok-clause-ok
@@ -23,3 +24,8 @@ returns-in-Ok-clause-ok g c =
       ),
       said.2,
     )
+
+pub of_reading-requires : goal.of_reading-requires
+of_reading-requires g c =
+    let failed = g.I.Source.Source.failed in
+    by_source failed c.in_ok-log.ensures.fails (failed c.in_ok-log.log) c.list_opened.new.log c.in-Err.fault c.in-Err.ensures.failures

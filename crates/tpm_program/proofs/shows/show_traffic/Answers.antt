@@ -1,3 +1,4 @@
+use Rattle.tpm_program.proofs.Reading.{by_source}
 use Rattle.tpm_program.proofs.shows.show_traffic.Goals as goal
 
 pub returns-in-Ok-clause-ok : goal.returns-in-Ok-clause-ok
@@ -12,3 +13,8 @@ returns-in-Ok-clause-ok g c =
       ),
       told.2,
     )
+
+pub of_reading-requires : goal.of_reading-requires
+of_reading-requires g c =
+    let failed = g.I.Source.Source.failed in
+    by_source failed c.in_ok-packets.ensures.fails (failed c.in_ok-packets.packets) c.read_up_to.new.source c.in-Err.fault c.in-Err.ensures.failures
