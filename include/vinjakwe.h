@@ -359,6 +359,27 @@ uint32_t tpm_log_variable(uint32_t kind, const uint8_t *bytes, size_t len, struc
  * TPM_ALG_SHA256 or TPM_ALG_SHA384): the first of TPM_MEASURED_DATA to TPM_MEASURED_OTHER that fits; or TPM_QUOTE_NO_BANK. */
 uint32_t tpm_log_measured(uint32_t kind, const uint8_t *bytes, size_t len, uint16_t hash, const uint8_t *digest, size_t digest_len);
 
+/* A digest by which a register may be extended, as in a boot that is trusted: its register; TPM_ALG of its hash; and its bytes, of which
+ * as many count as the digests of the hash have. One of a hash without a bank says nothing. */
+struct tpm_allowed {
+    uint32_t pcr;
+    uint16_t hash;
+    uint8_t digest[48];
+};
+
+/* What is said of a digest beside a list: it is on it, or it isn't, and the list names its register in its bank. */
+#define TPM_ALLOWED ((uint32_t)41)
+#define TPM_NOT_ALLOWED ((uint32_t)42)
+
+/* Tells whether a list allows the digest by which a record of this register and type extends it, in the bank of this hash (TPM_ALG_SHA1,
+ * TPM_ALG_SHA256 or TPM_ALG_SHA384): TPM_ALLOWED, TPM_NOT_ALLOWED, or TPM_LOG_DONE where the list doesn't name the register, or the type
+ * is EV_NO_ACTION, which extends nothing; or TPM_QUOTE_NO_BANK. Each call goes through the list.
+ *
+ * Where TPM_NOT_ALLOWED is answered of no digest of no record of a log, and a quote that selects each register of the list matches the log
+ * (tpm_log_check_attest), each log that it vouches for has digests of the list alone in these registers. */
+uint32_t tpm_log_allowed(const struct tpm_allowed *list, size_t len, uint32_t pcr, uint32_t kind, uint16_t hash, const uint8_t *digest,
+                         size_t digest_len);
+
 /* What a log tells of Secure Boot besides its state: 1 where DMA protection was disabled, else 0; and how many bytes of the log
  * precede the records of PK, KEK, db and dbx, or 0 where one was not measured. tpm_log_event tells the record at such a place, where
  * `late` is 0. */
