@@ -310,6 +310,12 @@ struct tpm_log_event {
  * no call wrote the bytes are read as if a record began there. */
 uint32_t tpm_log_event(const uint8_t *log, size_t len, struct tpm_log_place *place, struct tpm_log_event *event, uint32_t *at);
 
+/* Writes the record at a place of a log to the beginning of `out` as an object of JSON (RFC 8259), with no zero behind it, and says how
+ * many bytes that has: as `tpmtool events --json` prints the record of this number, so that what its data say is told, as the device
+ * path of an image. It answers 0 where tpm_log_event tells no record there, and where out_len is not twice as many. What `out` has
+ * besides is of no use. The place stays as it is, and the number is told as it is given: tpm_log_event counts none. */
+size_t tpm_log_event_json(const uint8_t *log, size_t len, const struct tpm_log_place *place, size_t number, uint8_t *out, size_t out_len);
+
 /* How many bytes the name of a type of records has at most. */
 #define TPM_EVENT_TYPE_BYTES 32
 
@@ -318,14 +324,15 @@ uint32_t tpm_log_event(const uint8_t *log, size_t len, struct tpm_log_place *pla
  * Firmware Profile ("Event Types") names no such type. */
 size_t tpm_event_type_name(uint32_t kind, uint8_t *out, size_t out_len);
 
-/* A text was told: in ASCII, or in UTF-16 with the less significant byte of each unit first. */
+/* A text was told: in UTF-8, or in UTF-16 with the less significant byte of each unit first. */
 #define TPM_TEXT ((uint32_t)34)
 #define TPM_TEXT_UTF16 ((uint32_t)35)
 
-/* Tells the text that these bytes, the data of a record of this type, are, all of them but for a zero that ends it. TPM_TEXT: it is
- * in `view`, and the type is EV_POST_CODE, EV_ACTION, EV_IPL or EV_EFI_ACTION: printable ASCII, a character or more. TPM_TEXT_UTF16:
- * it is in `view`, and the type is EV_S_CRTM_VERSION: a unit or more, and whether they are characters is not judged. TPM_LOG_DONE:
- * they are none, or the type is another; `view` stays as it was. */
+/* Tells the text that these bytes, the data of a record of this type, are, all of them but for zeros that end it. TPM_TEXT: it is in
+ * `view`, and the type is EV_POST_CODE, EV_ACTION, EV_IPL or EV_EFI_ACTION: UTF-8, a character or more, and of ASCII printable ones,
+ * tabs, line feeds and carriage returns alone. TPM_TEXT_UTF16: it is in `view`, and the type is EV_IPL, with such characters of ASCII, or
+ * EV_S_CRTM_VERSION, where the units are not judged, and 16 bytes that are no such text are a GUID. TPM_LOG_DONE: they are none, or
+ * the type is another; `view` stays as it was. */
 uint32_t tpm_log_text(uint32_t kind, const uint8_t *bytes, size_t len, struct tpm_part *view);
 
 /* A variable of the firmware, by its parts in the data of a record: the vendor's GUID, 16 bytes as they lie in memory; the name in

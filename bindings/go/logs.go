@@ -147,8 +147,8 @@ func EventTypeName(kind uint32) string {
 // TypeName is the name of the record's type, as "EV_SEPARATOR", or "" where the profile names none.
 func (e Event) TypeName() string { return EventTypeName(e.Type) }
 
-// Text is the one that the event's data are, without a zero that ends it: printable ASCII of EV_POST_CODE, EV_ACTION,
-// EV_IPL and EV_EFI_ACTION, or UTF-16 of EV_S_CRTM_VERSION, in which a unit that is none is U+FFFD. It is false where
+// Text is the one that the event's data are, without zeros that end it: UTF-8 of EV_POST_CODE, EV_ACTION, EV_IPL and
+// EV_EFI_ACTION, or UTF-16 of EV_IPL and EV_S_CRTM_VERSION, in which a unit that is none is U+FFFD. It is false where
 // they are no text, or the type is another.
 func (e Event) Text() (text string, is bool) {
 	var it C.struct_tpm_part
@@ -250,6 +250,7 @@ func (e Event) Variable() (found Variable, is bool) {
 type Events struct {
 	log   []byte
 	place C.struct_tpm_log_place
+	from  C.struct_tpm_log_place
 	event Event
 	err   error
 }
@@ -267,7 +268,7 @@ func (e *Events) Next() bool {
 		e.err = logJudged(said, at)
 		return false
 	}
-	e.place = from
+	e.place, e.from = from, e.place
 	// Before the data are three numbers and their size, and the digests, each behind its hash (TCG_PCR_EVENT2).
 	e.event = Event{
 		Number:   e.event.Number + 1,
@@ -285,6 +286,18 @@ func (e *Events) Next() bool {
 
 // Event is the record that Next went to.
 func (e *Events) Event() Event { return e.event }
+
+// JSON is the record that Next went to as the object that `tpmtool events --json` prints of it: what its data say is
+// told, as the device path of an image, or the signature that an authority holds.
+func (e *Events) JSON() []byte {
+	for out := make([]byte, 1<<12); ; out = make([]byte, 2*len(out)) {
+		from := e.from
+		count := C.tpm_log_event_json(place(e.log), size(e.log), &from, C.size_t(e.event.Number), place(out), size(out))
+		if count > 0 || e.event.Number == 0 {
+			return out[:count]
+		}
+	}
+}
 
 // Err is the log's fault, a *LogFault, once Next said that there is no record, or nil.
 func (e *Events) Err() error { return e.err }

@@ -97,7 +97,7 @@ func TestVariablesOfALog(t *testing.T) {
 }
 
 // Each list beside a log has a line for a record, whose third word is the type's name, whose sixth is its place, and
-// whose eighth may be "text". tags.events is left out, which has text in UTF-16: Text tells none.
+// whose eighth may be "text".
 func TestNamesAndTextsOfEachLogWithAList(t *testing.T) {
 	lists, err := filepath.Glob(checks + "logs/*.events")
 	if err != nil || len(lists) == 0 {
@@ -105,13 +105,10 @@ func TestNamesAndTextsOfEachLogWithAList(t *testing.T) {
 	}
 	for _, list := range lists {
 		name := strings.TrimSuffix(filepath.Base(list), ".events")
-		if name == "tags" {
-			continue
-		}
 		events := NewEvents(read(t, "logs/"+name+".log"))
 		for _, line := range strings.Split(strings.TrimSpace(string(read(t, "logs/"+name+".events"))), "\n") {
-			words := strings.SplitN(line, " ", 9)
-			if len(words) < 9 {
+			words := append(strings.SplitN(line, " ", 9), "", "")
+			if words[0] == "log" {
 				continue
 			}
 			if !events.Next() {
@@ -127,6 +124,26 @@ func TestNamesAndTextsOfEachLogWithAList(t *testing.T) {
 				t.Error(name, line, found, text)
 			} else if is && !strings.Contains(words[8], `\`) && text != words[8] {
 				t.Error(name, line, text)
+			}
+		}
+	}
+}
+
+// Each list of objects beside a log has a line for a record, which begins with its number.
+func TestObjectsOfEachLogWithAList(t *testing.T) {
+	lists, err := filepath.Glob(checks + "logs/*.json")
+	if err != nil || len(lists) == 0 {
+		t.Fatal(lists, err)
+	}
+	for _, list := range lists {
+		name := "logs/" + strings.TrimSuffix(filepath.Base(list), ".json")
+		events := NewEvents(read(t, name+".log"))
+		for _, line := range strings.Split(strings.TrimSpace(string(read(t, name+".json"))), "\n") {
+			if !strings.HasPrefix(line, `{"number":`) {
+				continue
+			}
+			if !events.Next() || string(events.JSON()) != line {
+				t.Error(name, line, string(events.JSON()))
 			}
 		}
 	}

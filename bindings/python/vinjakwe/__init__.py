@@ -9,6 +9,7 @@ from __future__ import annotations
 
 import ctypes
 import enum
+import json
 import os
 import uuid
 from contextlib import contextmanager
@@ -32,7 +33,7 @@ __all__ = [
     "Policy", "Refusal", "Registers", "Response", "SecureBoot", "SecureBootFault", "SecureBootState", "Session",
     "Signature", "SizedAttest", "Variable", "Verdict", "build_command", "changes_nv", "check", "check_quote",
     "code_name", "decode_attest", "decode_command", "decode_response", "decode_signature", "event_type_name", "events",
-    "measured", "replay", "secure_boot", "selection", "text", "variable", "vouched",
+    "measured", "objects", "replay", "secure_boot", "selection", "text", "variable", "vouched",
 ]
 __version__ = "0.1.0"
 
@@ -263,6 +264,7 @@ def _load() -> tuple[ctypes.PyDLL, ctypes.CDLL]:
         ("log_replay", number, [p, size, p, count]), ("log_replay_init", None, [p]),
         ("log_replay_feed", number, [p, p, size, count]), ("log_replay_end", number, [p, p, count]),
         ("log_event", number, [p, size, POINTER(_LogPlace), POINTER(_LogEvent), count]),
+        ("log_event_json", size, [p, size, POINTER(_LogPlace), size, p, size]),
         ("event_type_name", size, [number, p, size]), ("log_text", number, [number, p, size, POINTER(_Part)]),
         ("log_variable", number, [number, p, size, POINTER(_Variable)]),
         ("log_secure_boot", number, [p, size, c_uint16, POINTER(_SecureBoot), p, size, POINTER(size), count]),
@@ -529,6 +531,22 @@ def events(log: Log) -> Iterator[Event]:
     _raise_fault(said, at.value)
 
 
+def objects(log: Log) -> Iterator[dict[str, Any]]:
+    """The records of a log, one by one, as the objects that `tpmtool events --json` prints of them: what their data say
+    is told, as the device path of an image, or the signature that an authority holds. Raises LogFault behind those
+    before the fault."""
+    place, event, at, number, whole = _LogPlace(), _LogEvent(), c_uint32(), 0, _whole(log)
+    room = bytearray(BUFFER_BYTES)
+    while True:
+        number, here = number + 1, _LogPlace(place.at, place.late)
+        if (said := _lend(_library.tpm_log_event, (whole,), byref(place), byref(event), byref(at))) != _EVENT:
+            break
+        while not (size := _lend(_library.tpm_log_event_json, (whole,), byref(here), number, (room,))):
+            room = bytearray(2 * len(room))
+        yield json.loads(room[:size])
+    _raise_fault(said, at.value)
+
+
 def event_type_name(type: int) -> str | None:
     """The name of a type of records, as `EV_SEPARATOR`, or None where the PC Client Platform Firmware Profile names
     none."""
@@ -540,15 +558,15 @@ def event_type_name(type: int) -> str | None:
 
 
 def text(event: Event) -> str | None:
-    """The text that the data of a record are, without a zero that ends it: printable ASCII of EV_POST_CODE, EV_ACTION,
-    EV_IPL and EV_EFI_ACTION, or UTF-16 of EV_S_CRTM_VERSION, of which units that are no UTF-16 stay as they are. None
+    """The text that the data of a record are, without zeros that end it: UTF-8 of EV_POST_CODE, EV_ACTION, EV_IPL and
+    EV_EFI_ACTION, or UTF-16 of EV_IPL and EV_S_CRTM_VERSION, of which units that are no UTF-16 stay as they are. None
     where they are no text, or the type is another."""
     view = _Part()
     said = _lend(_library.tpm_log_text, event.type, (event.data,), byref(view))
     if said not in (_TEXT, _TEXT_UTF16):
         return None
     with memoryview(event.data) as data:
-        return _part(data, view).decode(*("ascii",) if said == _TEXT else ("utf-16-le", "surrogatepass"))
+        return _part(data, view).decode(*("utf-8",) if said == _TEXT else ("utf-16-le", "surrogatepass"))
 
 
 def measured(event: Event) -> dict[str, str]:

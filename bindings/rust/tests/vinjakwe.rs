@@ -58,7 +58,7 @@ fn variables_of_a_log() {
 }
 
 // Each list beside a log has a line for a record, whose third word is the type's name, whose sixth is its place, and
-// whose eighth may be "text". tags.events is left out, which has text in UTF-16: `text` tells none.
+// whose eighth may be "text".
 #[test]
 fn names_and_texts_of_each_log_with_a_list() {
     let logs = format!("{}/../../checks/logs", env!("CARGO_MANIFEST_DIR"));
@@ -66,7 +66,6 @@ fn names_and_texts_of_each_log_with_a_list() {
         .unwrap()
         .map(|it| it.unwrap().path())
         .filter(|it| it.extension().is_some_and(|it| it == "events"));
-    let lists = lists.filter(|it| !it.ends_with("tags.events"));
     let mut count = 0;
     for list in lists {
         let (log, lines) = (fs::read(list.with_extension("log")).unwrap(), fs::read_to_string(&list).unwrap());
@@ -76,7 +75,7 @@ fn names_and_texts_of_each_log_with_a_list() {
             assert_eq!(it.type_name().map_or(format!("{:08x}", it.kind), |it| it.to_string()), words[2], "{line}");
             assert_eq!(format!("at={}", it.at), words[5], "{line}");
             let text: Option<String> = it.text().map(|it| it.chars().collect());
-            assert_eq!(text.is_some(), words[7] == "text", "{line}");
+            assert_eq!(text.is_some(), words.get(7) == Some(&"text"), "{line}");
             assert!(text.map_or(true, |it| words[8].contains('\\') || it == words[8]), "{line}");
             count += 1;
         }
@@ -270,6 +269,25 @@ fn what_was_measured_of_each_log_with_a_list() {
         }
     }
     assert!(count > 0);
+}
+
+// A line of these lists for a record begins with its number.
+#[test]
+fn objects_of_each_log_with_a_list() {
+    let logs = format!("{}/../../checks/logs", env!("CARGO_MANIFEST_DIR"));
+    let mut room = vec![0; 1 << 20];
+    for list in fs::read_dir(logs).unwrap().map(|it| it.unwrap().path()) {
+        if list.extension().is_some_and(|it| it == "json") {
+            let (log, lines) = (fs::read(list.with_extension("log")).unwrap(), fs::read_to_string(&list).unwrap());
+            let mut records = events(&log);
+            assert_eq!(records.json(&mut room), None);
+            for line in lines.lines().filter(|it| it.starts_with("{\"number\":")) {
+                assert!(records.next().is_some());
+                assert_eq!(records.json(&mut []), None);
+                assert_eq!(records.json(&mut room), Some(line));
+            }
+        }
+    }
 }
 
 #[test]

@@ -16,4 +16,5 @@ pub mod Signing
 pub mod Starting
 pub mod Steps
 pub mod Telling
+pub mod Texts
 pub mod Varying

@@ -8,6 +8,7 @@ mod caller;
 mod code_name;
 mod command;
 mod device;
+mod event_json;
 mod framer;
 mod handed;
 mod hash;
@@ -37,6 +38,7 @@ pub use caller::{
 pub use code_name::tpm_code_name;
 pub use command::{TpmCommandAreas, TpmCommandSession, tpm_command_cut, tpm_command_decode};
 pub use device::{tpm_device_execute, tpm_device_init, tpm_device_power_cycle};
+pub use event_json::tpm_log_event_json;
 pub use framer::{tpm_framer_frame, tpm_framer_init, tpm_framer_next, tpm_framer_push};
 pub use hash::tpm_hash;
 pub use kept::{
