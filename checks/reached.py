@@ -4,9 +4,10 @@ It follows names by the text: from the clauses of what a crate's root file hands
 ghost members of its traits, through imports, renames and names that are handed on. A name after a dot is a field, but
 where a module's other name stands before it.
 
-    reached.py [--each]    the counts, and with --each every definition; the status is 1 where one is not reached
+    reached.py [--each]    the counts, and with --each every definition; the status is 1 where one outside inner/ is not
+                           reached
 
-Definitions that serve proofs alone stand in a folder inner/, or checks/reached.txt has their module and how many.
+Definitions that serve proofs alone stand in a folder inner/.
 """
 
 import pathlib
@@ -228,9 +229,7 @@ def main():
     reader = Reader(root)
     for crate in sorted((root / "crates").iterdir()):
         roots(reader, crate)
-    said = [line.split() for line in (root / "checks/reached.txt").read_text().splitlines() if line[:1] not in ("", "#")]
-    allowed = {module: int(number) for module, number in said}
-    counts, wrong = {}, [f"{module}: there is none" for module in allowed if module not in reader.modules]
+    counts, wrong = {}, []
     for module in reader.modules.values():
         count = counts.setdefault(module.name.split(".")[1], [0, 0, 0, 0])
         missing = []
@@ -243,9 +242,8 @@ def main():
             if "--each" in sys.argv:
                 why = "by " + reader.reached[each] if is_reached else "by none"
                 print(f"{module.name}.{each.name}", len(each.lines), why, sep="\t")
-        wanted = allowed.get(module.name, 0)
-        if len(missing) != wanted and ".specs.inner." not in module.name:
-            wrong.append(f"{module.name}: {len(missing)} in place of {wanted} are reached by none: {' '.join(missing)}")
+        if missing and ".specs.inner." not in module.name:
+            wrong.append(f"{module.name}: by none are reached {' '.join(missing)}")
     form = "{:18} {:>8} {:>8} {:>8} {:>8}"
     print(form.format("crate", "reached", "lines", "not", "lines"))
     for crate, count in counts.items():

@@ -1,6 +1,6 @@
 #!/bin/sh
 # What nobody has to believe stands apart: each definition of specs/ is reached from a contract that a crate hands out,
-# but for those of folders inner/ and of the modules that checks/reached.txt names.
+# but for those of folders inner/.
 
 . "$(dirname "$0")/shared.sh"
 

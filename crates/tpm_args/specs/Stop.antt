@@ -1,14 +1,12 @@
 -- What becomes of the words that are refused.
-use Rattle.std.specs.Prelude.{◌≡◌, ◌≢◌, ◌⊎◌, List, [], Option, Result, MatchOption, MatchResult, true, false}
-use Rattle.clap.specs.Words.{IsAmong, Text, fault_of, first_value, found_of, subcommand_of, takes}
-use Rattle.clap.specs.declared.parser.matches.ArgMatches.{ArgMatches}
+use Rattle.std.specs.Prelude.{◌≡◌, ◌≢◌, ◌⊎◌, List, [], true, false}
+use Rattle.clap.specs.Words.{IsAmong, Text, fault_of, subcommand_of, takes}
 use Rattle.clap.specs.declared.error.kind.ErrorKind.TheVariants.{DisplayHelp, DisplayVersion, OutOfMemory}
 use Rattle.clap.specs.declared.error.kind.ErrorKind.{ErrorKind}
 use Rattle.tpm_args.specs.declared.stop.Stop.TheVariants.{Help, Usage, Memory}
 use Rattle.tpm_args.specs.declared.stop.Stop.{Stop}
-use Rattle.tpm_args.specs.declared.task.Task.{Task}
 use Rattle.tpm_words.specs.Program.{program_app}
-use Rattle.tpm_args.specs.Task.{AsksNothing, AsksNothingWith, AsksWith}
+use Rattle.tpm_args.specs.Task.{AsksNothing}
 
 -- a text that was asked for
 abbrev pub IsHelp : ErrorKind → Type 0
@@ -23,19 +21,6 @@ abbrev pub StopsFor : ErrorKind → Stop → Type 0
 StopsFor kind (Help text) = IsHelp kind
 StopsFor kind (Usage text) = IsUsage kind
 StopsFor kind Memory = Unit {0}
-
--- want of memory, or a usage fault for this reason
-abbrev pub IsMemoryOr : Type 0 → Stop → Type 0
-IsMemoryOr Reason (Help text) = ⊥
-IsMemoryOr Reason (Usage text) = Reason
-IsMemoryOr Reason Memory = Unit {0}
-
--- what the words of a subcommand of this name ask for, if anything, or the end for that reason
-abbrev pub IsAsked : Text → ArgMatches → Result (Option Task) Stop → Type 0
-IsAsked name words asked = MatchResult asked
-    (λ task. MatchOption task (AsksNothingWith name (first_value (found_of words)))
-    (AsksWith name (first_value (found_of words))))
-    (IsMemoryOr (AsksNothingWith name (first_value (found_of words))))
 
 -- clap may refuse the words with an error of such a kind
 abbrev pub FailsWith : List Text → (ErrorKind → Type 0) → Type 0

@@ -1,5 +1,5 @@
 -- What the words ask for, by what clap finds in them.
-use Rattle.std.specs.Prelude.{◌≡◌, ℕ, List, [], ◌∷◌, take, drop, Option, Some, None, codes, option_and_then, option_map}
+use Rattle.std.specs.Prelude.{◌≡◌, ℕ, List, take, drop, Option, Some, None, codes, option_and_then, option_map}
 use Rattle.std.specs.Prelude.{Bool, true, false, not, ◌&&◌, ◌||◌, unwrap_or, if◌then◌else◌, IsSomeAnd, ◌≢◌, is_some}
 use Rattle.std.specs.Global.{Vec}
 use Rattle.std.specs.Str.{bytes_eq}
@@ -154,11 +154,6 @@ IsInput (Some text) None = text ≡ codes "-"
 IsInput None (Some path) = Unit {0}
 IsInput _ _ = ⊥
 
--- None of these words is given.
-abbrev pub HasNone : (Text → Option Text) → (names : List Text) → Type 0
-HasNone value [] = Unit {0}
-HasNone value (name ∷ names) = (value name ≡ None) × HasNone value names
-
 -- a subcommand of this name, with these values of its words by their names, asks for the task
 abbrev pub AsksWith : Text → (Text → Option Text) → Task → Type 0
 AsksWith name value (Show reply fields hex) =
@@ -209,10 +204,6 @@ AsksWith name value (Events log registers places digests event-data json attest 
     × AreListed (value (codes "register")) registers × (places ≡ is_given (value (codes "places")))
     × (digests ≡ is_given (value (codes "digests"))) × (event-data ≡ is_given (value (codes "data")))
     × (json ≡ is_given (value (codes "json")))
-
--- There is no such task.
-abbrev pub AsksNothingWith : Text → (Text → Option Text) → Type 0
-AsksNothingWith name value = (task : Task) → AsksWith name value task → ⊥
 
 -- the same, of the subcommand that was met, with its matches
 abbrev pub Asks : Option (Text × List Row) → Task → Type 0

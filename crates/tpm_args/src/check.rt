@@ -7,7 +7,7 @@ ghost use Rattle.clap.specs.Words.{first_value, found_of};
 ghost use Rattle.tpm_types.specs.declared.alg.Alg.{Alg as AlgValue};
 ghost use Rattle.tpm_types.specs.declared.tpms.Selection.{Selection as SelectionValue};
 ghost use Rattle.tpm_options.specs.declared.CheckOptions.{CheckOptions as CheckOptionsValue};
-ghost use Rattle.tpm_args.specs.Stop.{IsAsked, IsMemoryOr};
+ghost use Rattle.tpm_args.specs.inner.Stop.{IsAsked, IsMemoryOr};
 ghost use Rattle.tpm_args.specs.Task.{AreBytes, AreOptions, DigestsGoTogether, GoTogether, IsHash, IsHashIf};
 ghost use Rattle.tpm_args.specs.Task.{goes_with, has_neither, is_alone};
 ghost use Rattle.tpm_args.specs.Task.{IsWith, IsWithEither, Requires};

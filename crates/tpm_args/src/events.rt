@@ -2,7 +2,7 @@
 
 ghost use Rattle.std.specs.Prelude.{Option, MatchResult, option_map};
 ghost use Rattle.tpm_names.specs.declared.selection.RegisterList.{RegisterList as RegisterListValue};
-ghost use Rattle.tpm_args.specs.Stop.{IsMemoryOr};
+ghost use Rattle.tpm_args.specs.inner.Stop.{IsMemoryOr};
 ghost use Rattle.tpm_args.specs.Task.{AreListed};
 
 use crate::invalid::{Subcommand, invalid_value};

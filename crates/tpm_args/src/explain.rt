@@ -3,8 +3,9 @@
 ghost use Rattle.std.specs.Prelude.{◌≡◌, ℕ, List, Some, MatchOption, codes};
 ghost use Rattle.clap.specs.Words.{first_value, found_of};
 ghost use Rattle.tpm_names.specs.Numbers.{IsHexadecimal};
-ghost use Rattle.tpm_args.specs.Stop.{IsAsked, IsMemoryOr};
-ghost use Rattle.tpm_args.specs.Task.{digits_in, AsksNothingWith, AsksWith, IsCode, IsName};
+ghost use Rattle.tpm_args.specs.inner.Stop.{IsAsked, IsMemoryOr};
+ghost use Rattle.tpm_args.specs.Task.{digits_in, AsksWith, IsCode, IsName};
+ghost use Rattle.tpm_args.specs.inner.Task.{AsksNothingWith};
 
 use crate::given::is_given;
 use crate::invalid::{Subcommand, invalid_value};

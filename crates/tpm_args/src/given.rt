@@ -5,8 +5,10 @@ ghost use Rattle.std.specs.Prelude.{string_bytes};
 ghost use Rattle.clap.specs.Words.{first_value, found_of, kind_of, subcommand_of, subcommand_rows_of};
 ghost use Rattle.clap.specs.declared.error.kind.ErrorKind.TheVariants.{InvalidValue};
 ghost use Rattle.tpm_words.specs.Program.{program_app};
-ghost use Rattle.tpm_args.specs.Stop.{StopsFor, IsAsked, IsMemoryOr, Refuses};
-ghost use Rattle.tpm_args.specs.Task.{is_given as is_given_by, Asks, AsksNothing, AsksNothingWith, AsksWith};
+ghost use Rattle.tpm_args.specs.Stop.{StopsFor, Refuses};
+ghost use Rattle.tpm_args.specs.inner.Stop.{IsAsked, IsMemoryOr};
+ghost use Rattle.tpm_args.specs.Task.{is_given as is_given_by, Asks, AsksNothing, AsksWith};
+ghost use Rattle.tpm_args.specs.inner.Task.{AsksNothingWith};
 
 use crate::check::{check_task, options};
 use crate::events::registers;

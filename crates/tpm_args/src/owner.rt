@@ -1,7 +1,8 @@
 //! An owner's authorization value by its text.
 
 ghost use Rattle.std.specs.Prelude.{MatchResult};
-ghost use Rattle.tpm_args.specs.Owner.{IsOwner, IsOwnerFault};
+ghost use Rattle.tpm_args.specs.Owner.{IsOwner};
+ghost use Rattle.tpm_args.specs.inner.Owner.{IsOwnerFault};
 
 use hex::FromHexError;
 use std::alloc::Global;

@@ -3,7 +3,7 @@
 ghost use Rattle.std.specs.Prelude.{ℕ, List, MatchResult, codes};
 ghost use Rattle.tpm_names.specs.Numbers.{IsDecimal};
 ghost use Rattle.tpm_args.specs.Owner.{IsOwner};
-ghost use Rattle.tpm_args.specs.Stop.{IsAsked, IsMemoryOr};
+ghost use Rattle.tpm_args.specs.inner.Stop.{IsAsked, IsMemoryOr};
 
 use crate::invalid::{Subcommand, invalid_value, not_hexadecimal};
 use crate::owner::{OwnerFault, owner_value};

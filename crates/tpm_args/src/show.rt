@@ -2,8 +2,9 @@
 
 ghost use Rattle.std.specs.Prelude.{◌≡◌, ◌≢◌, [], ◌∷◌, MatchOption, None, Some, codes, option_map};
 ghost use Rattle.clap.specs.Words.{first_value, found_of};
-ghost use Rattle.tpm_args.specs.Stop.{IsAsked, IsMemoryOr};
-ghost use Rattle.tpm_args.specs.Task.{AsksNothingWith, AsksWith, HasNone, IsInput};
+ghost use Rattle.tpm_args.specs.inner.Stop.{IsAsked, IsMemoryOr};
+ghost use Rattle.tpm_args.specs.Task.{AsksWith, IsInput};
+ghost use Rattle.tpm_args.specs.inner.Task.{AsksNothingWith, HasNone};
 
 use crate::given::is_given;
 use crate::invalid::{Subcommand, invalid_value, no_command, wrong_words};

@@ -20,7 +20,8 @@ pub enum Stop {
 }
 
 impl Stop {
-    ghost use Rattle.tpm_args.specs.Stop.{IsMemoryOr, StopsFor};
+    ghost use Rattle.tpm_args.specs.Stop.{StopsFor};
+    ghost use Rattle.tpm_args.specs.inner.Stop.{IsMemoryOr};
 
     // A usage fault. Words stand in it as they came, so that it may have control characters, which a terminal obeys.
     fn usage(alloc: Global, text: &String) -> Stop

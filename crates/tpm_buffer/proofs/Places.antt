@@ -9,7 +9,8 @@ use Rattle.tpm_wire.specs.declared.refusal.Refusal.{Refusal}
 use Rattle.tpm_wire.specs.Token.{number_of, Here, past, at_start, or_fault, spelled_all}
 use Rattle.tpm_wire.specs.Layout.{Form, raw}
 use Rattle.tpm_wire.specs.Reading.{read, read_all, finish, unless, found, refuse, entries, ◌>>=◌}
-use Rattle.tpm_wire.specs.Buffers.{buffer, Layout, Place, later_place, too_few}
+use Rattle.tpm_wire.specs.Buffers.{buffer, Layout, Place, too_few}
+use Rattle.tpm_wire.specs.inner.Buffers.{later_place}
 use Rattle.tpm_wire.proofs.Agreement.{ok_is, bind_ok, test_end, unless_ok, ends_same}
 use Rattle.tpm_wire.proofs.Buffers.{buffer_sound}
 use Rattle.tpm_wire.proofs.Whole.{reads_its_path}

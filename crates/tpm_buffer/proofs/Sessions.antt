@@ -7,7 +7,8 @@ use Rattle.tpm_wire.specs.Longer.{with_more}
 use Rattle.tpm_types.specs.declared.tpms.Auth.{Auth}
 use Rattle.tpm_types.specs.Tpms.{auth_command}
 use Rattle.tpm_buffer.specs.ResponseAreas.{IsPlaceIn}
-use Rattle.tpm_buffer.specs.CommandAreas.{LiesIn, session_of, session_at, IsSession}
+use Rattle.tpm_buffer.specs.CommandAreas.{session_of, session_at, IsSession}
+use Rattle.tpm_buffer.specs.inner.CommandAreas.{LiesIn}
 use Rattle.tpm_buffer.proofs.Places.{alone, here_is, read_past}
 use Rattle.tpm_types.proofs.Short.{of_session, ok}
 

@@ -5,7 +5,8 @@ use Rattle.tpm_wire.specs.declared.refusal.Refusal.{Refusal}
 use Rattle.tpm_wire.specs.Token.{Here, at_start}
 use Rattle.tpm_wire.specs.Layout.{cut}
 use Rattle.tpm_wire.specs.Reading.{read, read_all, finish, ◌>>=◌}
-use Rattle.tpm_wire.specs.Buffers.{buffer, Layout, later_place, later_refusal}
+use Rattle.tpm_wire.specs.Buffers.{buffer, Layout, later_refusal}
+use Rattle.tpm_wire.specs.inner.Buffers.{later_place}
 use Rattle.tpm_wire.specs.Path.{Fault, Spells}
 use Rattle.tpm_wire.proofs.Buffers.{buffer_sound}
 use Rattle.tpm_wire.proofs.Whole.{fault_read, read_fault, spells_read, read_spells}

@@ -15,7 +15,8 @@ use Rattle.tpm_commands.specs.Handles.{handles}
 use Rattle.tpm_types.proofs.Short.{ok, err}
 use Rattle.tpm_buffer.specs.Commands.{authorization, Checked, before_params}
 use Rattle.tpm_buffer.specs.CommandAreas.{HeaderCut, HandlesCut, Cut, IsHandled, HasHandles, checked, params_here}
-use Rattle.tpm_buffer.specs.CommandAreas.{areas_view, HasCut, IsAreas, HasAreas}
+use Rattle.tpm_buffer.specs.CommandAreas.{HasCut, IsAreas, HasAreas}
+use Rattle.tpm_buffer.specs.inner.CommandAreas.{areas_view}
 use Rattle.tpm_buffer.proofs.Places.{here_is}
 use Rattle.tpm_buffer.proofs.Staged.{cut_fault, cut_value}
 

@@ -1,7 +1,6 @@
 -- What contracts see of a command that is read in steps.
 use Rattle.std.specs.Prelude.{◌≡◌, ◌≢◌, ℕ, ◌+◌, ◌<◌, ◌≤◌, true, List, [], ◌++◌, length, drop, map, Result, Ok, Err}
 use Rattle.tpm_wire.specs.declared.refusal.Refusal.{Refusal}
-use Rattle.tpm_wire.specs.ResponseCodes.{rc_authsize}
 use Rattle.tpm_wire.specs.Spelling.{spelling}
 use Rattle.tpm_wire.specs.Token.{Here, at_start}
 use Rattle.tpm_wire.specs.Layout.{cut}
@@ -58,13 +57,6 @@ checked c = record { header = c.header; handles = c.handles; auths = c.auths }
 abbrev pub params_here : Cut → Here
 params_here c = record { rest = c.params; at = c.params_at }
 
-abbrev pub areas_view : Cut → Checked × Here
-areas_view c = (checked c, params_here c)
-
--- the cut at a place, by what was read before it
-abbrev pub cut_of : Header → List ℕ → List Auth → Here → Cut
-cut_of h hs auths here = record { header = h; handles = hs; auths = auths; params = here.rest; params_at = here.at }
-
 -- The bytes have this cut: what stands before the parameters, and then the parameters to the end.
 abbrev pub HasCut : List ℕ → Cut → Type 0
 HasCut bytes c = Spells (cut before_params) (checked c, c.params) bytes × (c.params_at + length c.params ≡ length bytes)
@@ -84,11 +76,6 @@ HasAreas x (Err e) = FaultFrom 0 (authorization x.header.tag) x.here e
 
 -- ---- sessions by their positions
 
--- a place in these bytes, in an area of them
-pub record LiesIn (bytes : List ℕ) (h : Here) : Type 0 where
-  pub rest : drop h.at bytes ≡ h.rest ++ drop (h.at + length h.rest) bytes
-  pub within : h.at + length h.rest ≤ length bytes
-
 abbrev pub session_of : Result (Auth × Here) Refusal → Auth
 session_of (Ok x) = x.0
 session_of (Err e) = record { session = rs_pw; nonce = []; attrs = 0; hmac = [] }
@@ -105,11 +92,6 @@ pub record IsSession (bytes : List ℕ) (n : ℕ) : Type 0 where
 
 abbrev pub sessions_at : List ℕ → List ℕ → List Auth
 sessions_at bytes ns = map (session_at bytes) ns
-
--- The authorization area ends at the old place, and what comes after it is next.
-abbrev pub LeavesAuthorization : Here → Here → Here → Result (Unit {0}) Refusal → Type 0
-LeavesAuthorization behind old new (Ok x) = (length old.rest ≡ 0) × (new ≡ behind)
-LeavesAuthorization behind old new (Err e) = (0 < length old.rest) × (e ≡ record { code = rc_authsize; at = old.at })
 
 -- ---- bytes that are spelled by what was read of them
 

@@ -3,3 +3,4 @@ pub mod Parts
 pub mod CommandAreas
 pub mod Responses
 pub mod ResponseAreas
+pub mod inner

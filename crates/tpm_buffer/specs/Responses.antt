@@ -1,6 +1,6 @@
 -- A response to a given command: a header, and where its code is 0 a handle, parameters and sessions (Part 1,
 -- "Command/Response Structure"; Part 2, 6.9).
-use Rattle.std.specs.Prelude.{◌≡◌, ℕ, ◌+◌, Bool, true, not, List, [], ◌∷◌, length, Option, Some, None, nat_le, ◌==◌}
+use Rattle.std.specs.Prelude.{◌≡◌, ℕ, ◌+◌, Bool, true, not, List, [], ◌∷◌, length, Some, None, nat_le, ◌==◌}
 use Rattle.std.specs.Prelude.{◌||◌, if◌then◌else◌}
 use Rattle.tpm_wire.specs.Buffers.{Layout, number_in, numbered}
 use Rattle.tpm_wire.specs.Layout.Form.{done, number, field, area, list}
@@ -113,11 +113,6 @@ reply_of (responses.Done body auths) = record { body = body; auths = auths.items
 
 abbrev pub done_with : Reply → Response
 done_with r = responses.Done r.body (record { items = r.auths })
-
--- a nonzero code, or else what was read behind a code of 0
-abbrev pub code_or_done : Option ℕ → Reply → Response
-code_or_done (Some n) r = responses.Code n
-code_or_done None r = done_with r
 
 -- what follows the header
 abbrev pub behind_code : CommandCode → ℕ → ℕ → Layout Response

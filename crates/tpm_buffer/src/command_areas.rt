@@ -7,8 +7,10 @@ ghost use Rattle.tpm_wire.specs.Reading.{read, Gives};
 ghost use Rattle.tpm_wire.specs.Buffers.{TakesNumbered};
 ghost use Rattle.tpm_wire.specs.Path.{Decodes};
 ghost use Rattle.tpm_buffer.specs.Commands.{header as header_layout, before_params};
-ghost use Rattle.tpm_buffer.specs.CommandAreas.{head_and_rest, IsHandled, HasHandles, checked, params_here, areas_view};
-ghost use Rattle.tpm_buffer.specs.CommandAreas.{cut_of, IsAreas, HasAreas, IsSpelledBy};
+ghost use Rattle.tpm_buffer.specs.CommandAreas.{head_and_rest, IsHandled, HasHandles, checked, params_here};
+ghost use Rattle.tpm_buffer.specs.inner.CommandAreas.{areas_view};
+ghost use Rattle.tpm_buffer.specs.CommandAreas.{IsAreas, HasAreas, IsSpelledBy};
+ghost use Rattle.tpm_buffer.specs.inner.CommandAreas.{cut_of};
 
 use crate::command_header::{long_fault, take_header};
 use crate::command_sessions::{AuthRef, read_authorization, session_at, take_authorization};

@@ -10,8 +10,9 @@ ghost use Rattle.tpm_wire.specs.Spelling.{spelling};
 ghost use Rattle.tpm_wire.specs.Buffers.{Takes, TakesNumbered};
 ghost use Rattle.tpm_buffer.specs.Commands.{sessions, authorization_size, authorization};
 ghost use Rattle.tpm_buffer.specs.ResponseAreas.{IsPlaceIn};
-ghost use Rattle.tpm_buffer.specs.CommandAreas.{LiesIn, IsSession, session_at as the_session_at, sessions_at};
-ghost use Rattle.tpm_buffer.specs.CommandAreas.{LeavesAuthorization};
+ghost use Rattle.tpm_buffer.specs.CommandAreas.{IsSession, session_at as the_session_at, sessions_at};
+ghost use Rattle.tpm_buffer.specs.inner.CommandAreas.{LiesIn};
+ghost use Rattle.tpm_buffer.specs.inner.CommandAreas.{LeavesAuthorization};
 
 use crate::command_header::SESSIONS;
 use crate::response_sessions::{self, ReplyRef};

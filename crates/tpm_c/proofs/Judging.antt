@@ -25,7 +25,7 @@ use Rattle.tpm_types.proofs.Short.{ok, err}
 use Rattle.tpm_buffer.specs.Commands.{header, authorization, body_from, with_auths, command}
 use Rattle.tpm_buffer.specs.CommandAreas.{Cut, HasCut, checked, IsSpelledBy}
 use Rattle.tpm_buffer.proofs.Staged.{of_parts, of_params}
-use Rattle.tpm_c.specs.Builds.{HasFront}
+use Rattle.tpm_c.specs.inner.Builds.{HasFront}
 
 -- ---- a fault lies in the bytes, or right behind them
 

@@ -18,7 +18,8 @@ use Rattle.tpm_model.specs.Kept.{kept_memory, restored}
 use Rattle.tpm_c.specs.Devices.{fits}
 use Rattle.tpm_c.specs.declared.part.TpmRefusal.{TpmRefusal}
 use Rattle.tpm_c.specs.Parts.{refusal_of}
-use Rattle.tpm_c.specs.KeptDevices.{hash_of, session_hash_of, IsAgain, IsFaulty, SpellsNvMemory, IsJudged, is_made}
+use Rattle.tpm_c.specs.KeptDevices.{hash_of, session_hash_of, IsAgain, IsFaulty, is_made}
+use Rattle.tpm_c.specs.inner.KeptDevices.{SpellsNvMemory, IsJudged}
 use Rattle.tpm_c.proofs.Decoding.{is_read, is_refused}
 
 abbrev hash_in : Present → ℕ → ℕ

@@ -1,5 +1,5 @@
 -- What is made of a command's parts.
-use Rattle.std.specs.Prelude.{◌≡◌, ◌⊎◌, ℕ, ◌<◌, ◌≤◌, List, length, drop, Option, Some, None}
+use Rattle.std.specs.Prelude.{◌≡◌, ◌⊎◌, ℕ, ◌<◌, ◌≤◌, List, length, Option, Some, None}
 use Rattle.tpm_wire.specs.declared.refusal.Refusal.{Refusal}
 use Rattle.tpm_wire.specs.ResponseCodes.{rc_command_size}
 use Rattle.tpm_wire.specs.Path.{Spells, Fault}
@@ -7,7 +7,6 @@ use Rattle.tpm_types.specs.declared.command_code.CommandCode.{CommandCode}
 use Rattle.tpm_commands.specs.declared.command.Command.{Command}
 use Rattle.tpm_types.specs.CommandCodes.{code_of}
 use Rattle.tpm_buffer.specs.Commands.{command}
-use Rattle.tpm_buffer.specs.CommandAreas.{Cut, HasCut}
 use Rattle.tpm_buffer.specs.Parts.{joined}
 use Rattle.tpm_c.specs.declared.part.TpmRefusal.{TpmRefusal}
 use Rattle.tpm_c.specs.Calls.{Call}
@@ -25,11 +24,6 @@ pub record Told : Type 0 where
   pub out : List ℕ
   pub count : ℕ
   pub refusal : TpmRefusal
-
--- Nothing that stands before the parameters has a fault: the code is this one, and they begin at this place.
-abbrev pub HasFront : List ℕ → CommandCode → (at : ℕ) → Type 0
-HasFront bytes code at =
-    (c : Cut) × HasCut bytes c × (c.header.code ≡ code) × (c.params_at ≡ at) × (c.params ≡ drop at bytes)
 
 -- COMMAND_SIZE at the size
 abbrev pub too_long : Refusal

@@ -16,7 +16,7 @@ use Rattle.tpm_types.specs.Handles.{is_session}
 use Rattle.tpm_types.specs.Limits.{digest_bytes}
 use Rattle.tpm_model.specs.Steps.{History, PowerCycle, Origin}
 use Rattle.tpm_model.specs.Sessions.{loaded, sessions_at}
-use Rattle.tpm_model.specs.Counters.{Counter, NvMemory, nv_memory}
+use Rattle.tpm_model.specs.Counters.{Counter, nv_memory}
 use Rattle.tpm_model.specs.Kept.{kept_memory, number_of_value, restored}
 use Rattle.tpm_model.specs.Authorization.{is_empty}
 use Rattle.tpm_device.specs.declared.device.Device.{Device}
@@ -63,24 +63,6 @@ abbrev pub IsFaulty : (owner kept : List ℕ) → Refusal → Type 0
 IsFaulty owner kept e =
     ((digest_bytes < length owner) × (e ≡ long_owner))
     ⊎ ((length owner ≤ digest_bytes) × Fault kept_memory kept e)
-
--- The bytes spell an NV memory.
-abbrev pub SpellsNvMemory : (kept : List ℕ) → Type 0
-SpellsNvMemory kept = (nv : NvMemory) × Spells kept_memory nv kept
-
--- whether it is refused to make a device, and the refusal before that and after it
-pub record Judged : Type 0 where
-  pub is_refused : Bool
-  pub old : TpmRefusal
-  pub new : TpmRefusal
-
-abbrev pub IsJudgedSo : (is_refused : Bool) → (owner kept : List ℕ) → Judged → Type 0
-IsJudgedSo true owner kept judged = IsFaulty owner kept (refusal_of judged.new)
-IsJudgedSo false owner kept judged = (length owner ≤ digest_bytes) × SpellsNvMemory kept × (judged.new ≡ judged.old)
-
--- Whether it is refused to make a device of them: the refusal is the first fault, or as it was where there is none.
-abbrev pub IsJudged : (owner kept : List ℕ) → Judged → Type 0
-IsJudged owner kept judged = IsJudgedSo judged.is_refused owner kept judged
 
 -- The owner's value fits, and the bytes spell an NV memory.
 abbrev pub is_made : (owner kept : List ℕ) → Bool

@@ -23,3 +23,4 @@ pub mod Vouched
 pub mod Written
 pub mod AnswerNames
 pub mod Attests
+pub mod inner

@@ -4,7 +4,8 @@ ghost use Rattle.std.specs.Prelude.{◌≡◌, ◌+◌, ◌≤◌, IfOk, IfErr, 
 ghost use Rattle.tpm_wire.specs.Path.{Spells, Fault};
 ghost use Rattle.tpm_commands.specs.declared.command.Command.{Command};
 ghost use Rattle.tpm_buffer.specs.Commands.{command as command_layout};
-ghost use Rattle.tpm_c.specs.Builds.{HasFront, Builds, BuildsBytes};
+ghost use Rattle.tpm_c.specs.Builds.{Builds, BuildsBytes};
+ghost use Rattle.tpm_c.specs.inner.Builds.{HasFront};
 ghost use Rattle.tpm_c.specs.Written.{IsIn};
 
 use crate::command::judge_params;

@@ -7,7 +7,8 @@ ghost use Rattle.tpm_model.specs.NvChanges.{changes_nv as changes_nv_of};
 ghost use Rattle.tpm_model.specs.Steps.{History, Origin, new_origin};
 ghost use Rattle.tpm_device.specs.Stands.{Stands};
 ghost use Rattle.tpm_c.specs.Devices.{device_at};
-ghost use Rattle.tpm_c.specs.KeptDevices.{IsKeptIn, IsJudged, SpellsNvMemory, IsAgain, IsRestored, restore_room};
+ghost use Rattle.tpm_c.specs.KeptDevices.{IsKeptIn, IsAgain, IsRestored, restore_room};
+ghost use Rattle.tpm_c.specs.inner.KeptDevices.{IsJudged, SpellsNvMemory};
 ghost use Rattle.tpm_c.specs.KeptDevices.{restored_at, greatest_of, hash_of, session_hash_of};
 ghost use Rattle.tpm_c.specs.KeptDevices.{counters_of, counter_view, IsCounterTold};
 

@@ -6,7 +6,8 @@ ghost use Rattle.tpm_log.specs.Events.{shown};
 ghost use Rattle.tpm_secure_boot.specs.SecureBoot.{sayings};
 ghost use Rattle.tpm_secure_boot.specs.Found.{held};
 ghost use Rattle.tpm_log.specs.Authorities.{authority_places};
-ghost use Rattle.tpm_c.specs.SecureBoots.{state_number, fault_number, place_of, found_view};
+ghost use Rattle.tpm_c.specs.SecureBoots.{state_number, fault_number, place_of};
+ghost use Rattle.tpm_c.specs.inner.SecureBoots.{found_view};
 ghost use Rattle.tpm_c.specs.SecureBoots.{IsBootSaid, IsBootIn, IsBootChecked};
 
 use crate::log::tell;

@@ -8,7 +8,8 @@ use Rattle.tpm_options.specs.declared.CheckOptions.{CheckOptions}
 use Rattle.tpm_output.specs.declared.status.Status.{Status}
 use Rattle.tpm_check.specs.AllowedBoot.{AllowFiles, ChecksAllowed, SaysOfAllowed}
 use Rattle.tpm_output.specs.Status.{both}
-use Rattle.tpm_check.specs.CheckAttest.{Adds, behind}
+use Rattle.tpm_check.specs.CheckAttest.{behind}
+use Rattle.tpm_check.specs.inner.CheckAttest.{Adds}
 use Rattle.tpm_check.specs.Compare.{Verdict, printed}
 
 -- That is what is printed of a log.

@@ -20,8 +20,8 @@ use Rattle.tpm_check.specs.Compare.{heading_behind, lines_under, is_statement, i
 use Rattle.tpm_check.specs.Compare.{bank_lines, register_line, register_names, register_named, comparison_of}
 use Rattle.tpm_check.specs.Compare.{comparison_from, comparison, status_if, most_line, IsStated}
 use Rattle.tpm_check.specs.Compare.{ReadsList, ReadsTooMuchList}
-use Rattle.tpm_check.specs.Comparing.{Compares, line_behind, line_text, list_line, stated_behind, stated_text, status_behind}
-use Rattle.tpm_check.specs.Told.{told}
+use Rattle.tpm_check.specs.inner.Comparing.{Compares, line_behind, line_text, list_line, stated_behind, stated_text, status_behind}
+use Rattle.tpm_check.specs.inner.Told.{told}
 use Rattle.tpm_output.specs.declared.status.Status.TheVariants.{Done, Refused}
 use Rattle.tpm_output.specs.declared.status.Status.{Status}
 use Rattle.tpm_output.specs.InputLines.{lines_of, most_bytes}

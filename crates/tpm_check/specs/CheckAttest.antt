@@ -105,10 +105,6 @@ on_attest b o a =
     (behind (on_nonce b.json o.any_nonce (given o.nonce) a.extra_data)
     (behind (on_selection b.json o.any_selection o.required a.quote.selections) (on_quote b o.hash a.quote)))))
 
--- A text was added with its status.
-abbrev pub Adds : Verdict → Status → (old new : List ℕ) → Type 0
-Adds v status old new = (status ≡ v.status) × (new ≡ old ++ v.text)
-
 -- ---- what is printed
 
 abbrev pub Says : Verdict → Status → List ℕ → Type 0

@@ -1,2 +1,6 @@
 -- Definitions that serve proofs alone: no contract that is handed out names them.
 pub mod AllowReading
+pub mod CheckAttest
+pub mod Comparing
+pub mod SecureBootLines
+pub mod Told

@@ -12,7 +12,7 @@ ghost use Rattle.tpm_events.specs.ListEvents.{most_read};
 ghost use Rattle.tpm_check.specs.AllowTold.{too_long_text};
 ghost use Rattle.tpm_check.specs.AllowedBoot.{ChecksAllowed, SaysBehind, SaysOfAllowed, SaysOfList, SaysOfRead};
 ghost use Rattle.tpm_check.specs.AllowedBoot.{on_boot};
-ghost use Rattle.tpm_check.specs.CheckAttest.{Adds};
+ghost use Rattle.tpm_check.specs.inner.CheckAttest.{Adds};
 ghost use Rattle.tpm_check.specs.Compare.{Verdict, not_a_register_text, printed};
 
 use crate::allow_lines::read_allowed;

@@ -4,7 +4,7 @@ ghost use Rattle.std.specs.Prelude.{◌≡◌, ◌<◌, ◌++◌, IfOk, OnOk, ma
 ghost use Rattle.tpm_types.specs.Alg.{all_algs};
 ghost use Rattle.tpm_pcr.specs.Registers.{value_in};
 ghost use Rattle.tpm_output.specs.declared.status.Status.TheVariants.{Refused};
-ghost use Rattle.tpm_check.specs.Told.{told};
+ghost use Rattle.tpm_check.specs.inner.Told.{told};
 ghost use Rattle.tpm_check.specs.CheckJson.{bank_begin, bank_member, not_hexadecimal_text};
 ghost use Rattle.tpm_check.specs.CheckJson.{hint_line, hint_member, ok_text, quote_text};
 ghost use Rattle.tpm_check.specs.CheckJson.{refusal_members, refusal_text, registers_object, registers_told};

@@ -8,7 +8,7 @@ ghost use Rattle.tpm_output.specs.declared.fault.ToolFault.TheVariants.{InputToo
 ghost use Rattle.tpm_output.specs.Faults.{FailsByMemoryOrWrite};
 ghost use Rattle.tpm_output.specs.InputLines.{CountsRead};
 ghost use Rattle.tpm_check.specs.Compare.{printed};
-ghost use Rattle.tpm_check.specs.Told.{told};
+ghost use Rattle.tpm_check.specs.inner.Told.{told};
 ghost use Rattle.tpm_check.specs.CheckJson.{ok_text, registers_told};
 ghost use Rattle.tpm_check.specs.Check.{CountsReads, FailsLast, ReadsIfList, ReadsTooMuchIfList};
 ghost use Rattle.tpm_check.specs.Check.{failures_of, has_stopped};

@@ -12,9 +12,9 @@ ghost use Rattle.tpm_output.specs.Status.{both};
 ghost use Rattle.tpm_check.specs.Check.{ReadsIfList, ReadsTooMuchIfList, failures_of, has_stopped};
 ghost use Rattle.tpm_check.specs.Compare.{compared, no_register_text, states_any, status_if};
 ghost use Rattle.tpm_check.specs.Compare.{comparison, compared_text, is_value, line_under, ReadsList, ReadsTooMuchList};
-ghost use Rattle.tpm_check.specs.Comparing.{line_behind, line_text, stated_as, stated_behind, stated_text};
-ghost use Rattle.tpm_check.specs.Comparing.{status_behind};
-ghost use Rattle.tpm_check.specs.Told.{told};
+ghost use Rattle.tpm_check.specs.inner.Comparing.{line_behind, line_text, stated_as, stated_behind, stated_text};
+ghost use Rattle.tpm_check.specs.inner.Comparing.{status_behind};
+ghost use Rattle.tpm_check.specs.inner.Told.{told};
 
 use crate::beside::Beside;
 use crate::list_lines::{Heading, Line, MOST_LINE, read_line};
@@ -109,7 +109,7 @@ impl Comparing<'_> {
 
 impl LineSink for Comparing<'_> {
     ghost use Rattle.std.specs.Prelude.{◌≡◌, ◌+◌, ◌^◌, ◌<◌, true};
-    ghost use Rattle.tpm_check.specs.Comparing.{Compares, list_line};
+    ghost use Rattle.tpm_check.specs.inner.Comparing.{Compares, list_line};
 
     ghost limits = { list_line };
 

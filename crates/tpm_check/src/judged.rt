@@ -3,13 +3,14 @@
 ghost use Rattle.std.specs.Prelude.{◌≡◌, ◌++◌, false, IfOk, OnOk, option_map, string_bytes};
 ghost use Rattle.std.specs.Str.{bytes_eq};
 ghost use Rattle.tpm_quote.specs.Attests.{registers_of};
-ghost use Rattle.tpm_check.specs.CheckAttest.{Adds, ChecksAttest, Says, attest_told, close_text, given, hint};
+ghost use Rattle.tpm_check.specs.CheckAttest.{ChecksAttest, Says, attest_told, close_text, given, hint};
+ghost use Rattle.tpm_check.specs.inner.CheckAttest.{Adds};
 ghost use Rattle.tpm_check.specs.CheckAttest.{is_signature, is_sized, lacks_line, lacks_text};
 ghost use Rattle.tpm_check.specs.CheckAttest.{on_attest, on_missing, on_nonce, on_quote, on_registers};
 ghost use Rattle.tpm_check.specs.CheckAttest.{on_selection, on_signer, said, whether};
 ghost use Rattle.tpm_check.specs.CheckJson.{quote_word};
 ghost use Rattle.tpm_check.specs.Compare.{printed, status_if};
-ghost use Rattle.tpm_check.specs.Told.{told};
+ghost use Rattle.tpm_check.specs.inner.Told.{told};
 
 use crate::beside::Beside;
 use crate::check_json::refusal_answer;

@@ -5,7 +5,7 @@ ghost use Rattle.tpm_output.specs.Text.{bytes_in};
 ghost use Rattle.tpm_types.specs.Alg.{alg_name};
 ghost use Rattle.tpm_check.specs.Compare.{heading_line, bank_headed, other_headed, heading_in, is_numbered};
 ghost use Rattle.tpm_check.specs.Compare.{number_in, numbered_under, stating, line_under};
-ghost use Rattle.tpm_check.specs.Comparing.{line_as, stated_as};
+ghost use Rattle.tpm_check.specs.inner.Comparing.{line_as, stated_as};
 
 use crate::stated::{Stated, cut, read_stated, read_value, register_named};
 use std::alloc::{AllocError, Global};

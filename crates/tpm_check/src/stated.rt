@@ -4,7 +4,7 @@ ghost use Rattle.std.specs.Prelude.{◌≡◌, ◌<◌, IfOk, IfSome, Some, posi
 ghost use Rattle.tpm_output.specs.Text.{bytes_in};
 ghost use Rattle.tpm_check.specs.Compare.{is_space, first_word, behind_word, bank_named, register_named, stated_of};
 ghost use Rattle.tpm_check.specs.Compare.{stated_in};
-ghost use Rattle.tpm_check.specs.Comparing.{stated_as};
+ghost use Rattle.tpm_check.specs.inner.Comparing.{stated_as};
 
 use std::alloc::{AllocError, Global};
 use tpm_output::hexadecimal::decoded;

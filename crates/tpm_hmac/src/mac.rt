@@ -6,7 +6,7 @@ ghost use Rattle.tpm_types.specs.declared.alg.Alg.{Alg};
 ghost use Rattle.tpm_types.specs.Alg.{digest_len, block_len};
 ghost use Rattle.tpm_types.specs.Limits.{block_bytes};
 ghost use Rattle.tpm_hmac.specs.Hmac.{filled, block_key, xored as xored_bytes, hmac as hmac_of};
-ghost use Rattle.tpm_hmac.specs.Hashers.{Holding, MacHolds};
+ghost use Rattle.tpm_hmac.specs.inner.Hashers.{Holding, MacHolds};
 
 use crate::bytes::put;
 use crate::hashing::{Hasher, hash_of_two};

@@ -11,7 +11,7 @@ use Rattle.tpm_model.specs.Counters.{NvMemory}
 use Rattle.tpm_model.specs.Actions.{may}
 use Rattle.tpm_model.proofs.Kept.{or_others, found_after}
 use Rattle.tpm_nv.specs.Definitions.{Definition, definition_of}
-use Rattle.tpm_nv.specs.Places.{IsPlace}
+use Rattle.tpm_nv.specs.inner.Places.{IsPlace}
 
 split_at : (xs : List Counter) (k : ℕ) (d : Counter) → k < length xs → xs ≡ take k xs ++ get_or xs k d ∷ drop (k + 1) xs
 split_at xs k d lt = sym (take-append-drop k xs) ∙ ap (λ (r : List Counter). take k xs ++ r) (drop_more xs k d lt)

@@ -1,3 +1,3 @@
 pub mod Answers
-pub mod Places
 pub mod Definitions
+pub mod inner

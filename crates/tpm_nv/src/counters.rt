@@ -13,7 +13,7 @@ ghost use Rattle.tpm_model.specs.Kept.{IsKept};
 ghost use Rattle.tpm_model.specs.Counters as model;
 ghost use Rattle.tpm_nv.specs.Answers.{check_undefine};
 ghost use Rattle.tpm_nv.specs.Definitions.{definition_of, value_in};
-ghost use Rattle.tpm_nv.specs.Places.{IsPlace};
+ghost use Rattle.tpm_nv.specs.inner.Places.{IsPlace};
 
 use crate::definition::{COUNTER_BYTES, Definition};
 use arrayvec::ArrayVec;

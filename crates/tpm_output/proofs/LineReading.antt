@@ -11,7 +11,8 @@ use Rattle.tpm_output.specs.declared.input_lines.LineReader.{LineReader}
 use Rattle.tpm_output.specs.InputLines.{lines_of, HasNoFeed, most_piece}
 use Rattle.tpm_output.specs.LineSinks.{GoesOn, Limits, ReadsLines, LineStep, LinesEnd, LinesStart, StopsAt, TakesAll, TakesFrom, kept}
 use Rattle.tpm_output.specs.LineSinks.{some_if}
-use Rattle.tpm_output.specs.LineReading.{EndsAll, EndsLine, Feeds, FeedsOn, Holds, has_some}
+use Rattle.tpm_output.specs.inner.LineReading.{EndsAll, EndsLine, Feeds, FeedsOn, Holds}
+use Rattle.tpm_output.specs.inner.LineReading.{has_some}
 use Rattle.tpm_output.proofs.InputLines.{no_feed-more, ended_line, ended_both, last_line, first_line, other_lines, longer_line}
 use Rattle.tpm_output.proofs.InputLines.{lines_of-append}
 

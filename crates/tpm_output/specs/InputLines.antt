@@ -1,5 +1,5 @@
 -- The lines of an input, and what is read of one (this profile).
-use Rattle.std.specs.Prelude.{◌≡◌, ◌⊎◌, ℕ, ◌-◌, min, max, ◌==◌, false, List, [], ◌∷◌, ◌++◌, Result, Ok, Err}
+use Rattle.std.specs.Prelude.{◌≡◌, ◌⊎◌, ℕ, ◌==◌, false, List, [], ◌∷◌, ◌++◌, Result, Ok, Err}
 use Rattle.std.specs.Prelude.{if◌then◌else◌}
 use Rattle.std.specs.List.{AllByRecursion}
 use Rattle.tpm_wire.specs.Sources.{one_more}
@@ -34,11 +34,6 @@ most_bytes = 16777216
 -- how many bytes are asked for at a time
 abbrev pub most_piece : ℕ
 most_piece = 4096
-
--- how many are asked for where so many were read, of this many at most: up to the limit none is read together with one
--- behind it
-abbrev pub room_behind : (most read : ℕ) → ℕ
-room_behind most read = max 1 (min (most - read) most_piece)
 
 -- A read failed where the answer is Read, and nowhere else.
 abbrev pub CountsRead : {X : Type 0} → ℕ → ℕ → Result X ToolFault → Type 0

@@ -17,4 +17,4 @@ pub mod Reading
 pub mod Reads
 pub mod InputLines
 pub mod LineSinks
-pub mod LineReading
+pub mod inner

@@ -6,10 +6,11 @@ ghost use Rattle.std.specs.Io.KnownBytes.{Appends, Consumes};
 ghost use Rattle.tpm_wire.specs.Sources.{IsWhereItFailed};
 ghost use Rattle.tpm_output.specs.declared.fault.ToolFault.TheVariants.{InputTooLong, Read};
 ghost use Rattle.tpm_output.specs.Faults.{FailsByMemoryOrWrite};
-ghost use Rattle.tpm_output.specs.InputLines.{AddedTo, CountsRead, room_behind};
+ghost use Rattle.tpm_output.specs.InputLines.{AddedTo, CountsRead};
+ghost use Rattle.tpm_output.specs.inner.InputLines.{room_behind};
 ghost use Rattle.tpm_output.specs.LineSinks.{GoesOn, IsWhole, Limits, OnTrue, ReadsLines, ReadsOneMore, LineStep};
 ghost use Rattle.tpm_output.specs.LineSinks.{TakesKept, some_if};
-ghost use Rattle.tpm_output.specs.LineReading.{EndsLine, EndsAll, Feeds};
+ghost use Rattle.tpm_output.specs.inner.LineReading.{EndsLine, EndsAll, Feeds};
 
 use crate::answer::write;
 use crate::fault::ToolFault;

@@ -1,13 +1,9 @@
 -- What stands in a file of either format, one behind the other.
-use Rattle.std.specs.Prelude.{ℕ, List, Result, Ok, Err}
-use Rattle.tpm_pcap.specs.declared.block.Block.{Block as RustBlock}
-use Rattle.tpm_pcap.specs.declared.block.Framed.{Framed as RustFramed}
+use Rattle.std.specs.Prelude.{ℕ, List, Result}
 use Rattle.tpm_pcap.specs.declared.block.Interface.{Interface}
-use Rattle.tpm_pcap.specs.declared.block.Packet.{Packet as RustPacket}
 use Rattle.tpm_pcap.specs.declared.block.Ticks.{Ticks}
 use Rattle.tpm_pcap.specs.declared.entry.Reason.{Reason}
 use Rattle.tpm_pcap.specs.declared.numbers.Order.{Order}
-use Rattle.tpm_pcap.specs.declared.block.Block.TheVariants as rust
 
 -- a packet: the number of its interface in the section, from 0, its time, how many bytes it had, and those that were
 -- captured
@@ -34,20 +30,3 @@ pub record Framed : Type 0 where
 -- a block, or why no more can be told
 abbrev pub Read : Type 0
 Read = Result Framed Reason
-
-abbrev pub packet_as : RustPacket → Packet
-packet_as p = record { interface = p.interface; ticks = p.ticks; size = p.size; bytes = p.bytes.now }
-
-abbrev pub block_as : RustBlock → Block
-block_as (rust.Section order) = Section order
-block_as (rust.Interface interface) = Describes interface
-block_as (rust.Packet p) = Captured (packet_as p)
-block_as (rust.Simple size bytes) = Simple size bytes.now
-block_as rust.Other = Other
-
-abbrev pub framed_as : RustFramed → Framed
-framed_as r = record { block = block_as r.block; size = r.size }
-
-abbrev pub read_as : Result RustFramed Reason → Read
-read_as (Ok r) = Ok (framed_as r)
-read_as (Err reason) = Err reason

@@ -4,7 +4,6 @@ use Rattle.std.specs.Prelude.{None, Ok, Err, if◌then◌else◌}
 use Rattle.tpm_pcap.specs.declared.entry.Stamp.{Stamp}
 use Rattle.tpm_pcap.specs.declared.file.Format.TheVariants.{Savefile, Pcapng}
 use Rattle.tpm_pcap.specs.declared.file.Format.{Format}
-use Rattle.tpm_pcap.specs.declared.file.Reader.{Reader as RustReader}
 use Rattle.tpm_pcap.specs.declared.file.Traffic.{Traffic as RustTraffic}
 use Rattle.tpm_pcap.specs.declared.link.Link.{Link}
 use Rattle.tpm_pcap.specs.declared.numbers.Order.{Order}
@@ -14,9 +13,9 @@ use Rattle.tpm_pcap.specs.Links.{link_of}
 use Rattle.tpm_pcap.specs.Numbers.{number4_in}
 use Rattle.tpm_pcap.specs.Pcapng.{block_in}
 use Rattle.tpm_pcap.specs.Savefiles.{record_in}
-use Rattle.tpm_pcap.specs.Sections.{Section, section_as, new_section, with_interface, packet_time, simple_packet}
+use Rattle.tpm_pcap.specs.Sections.{Section, new_section, with_interface, packet_time, simple_packet}
 use Rattle.tpm_pcap.specs.Sections.{found_of}
-use Rattle.tpm_pcap.specs.Talks.{Talk, talk_as, new_talk, after_found, found_told, unfinished}
+use Rattle.tpm_pcap.specs.Talks.{Talk, new_talk, after_found, found_told, unfinished}
 use Rattle.tpm_pcap.specs.Blocks as blocks
 use Rattle.tpm_pcap.specs.Pcapng as pcapng
 use Rattle.tpm_pcap.specs.Savefiles as savefile
@@ -30,9 +29,6 @@ pub record Reader : Type 0 where
   pub section : Section
   pub talk : Talk
   pub packet : ℕ
-
-abbrev pub reader_as : RustReader → Reader
-reader_as r = record { port = r.port; section = section_as r.section; talk = talk_as r.talk; packet = r.packet }
 
 abbrev pub reader_of : (port : ℕ) → Section → Reader
 reader_of port s = record { port = port; section = s; talk = new_talk; packet = 1 }

@@ -12,3 +12,4 @@ pub mod Times
 pub mod Ways
 pub mod Talks
 pub mod Files
+pub mod inner

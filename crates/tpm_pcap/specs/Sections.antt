@@ -7,7 +7,6 @@ use Rattle.tpm_pcap.specs.declared.block.Ticks.TheVariants.{Untold}
 use Rattle.tpm_pcap.specs.declared.block.Ticks.{Ticks}
 use Rattle.tpm_pcap.specs.declared.link.Link.{Link}
 use Rattle.tpm_pcap.specs.declared.numbers.Order.{Order}
-use Rattle.tpm_pcap.specs.declared.section.Section.{Section as RustSection}
 use Rattle.tpm_pcap.specs.Blocks.{Packet}
 use Rattle.tpm_pcap.specs.Segments.{Found, found_by}
 use Rattle.tpm_pcap.specs.Times.{time_of}
@@ -15,9 +14,6 @@ use Rattle.tpm_pcap.specs.Times.{time_of}
 pub record Section : Type 0 where
   pub order : Order
   pub interfaces : List Interface
-
-abbrev pub section_as : RustSection → Section
-section_as s = record { order = s.order; interfaces = s.interfaces.items }
 
 abbrev pub new_section : Order → Section
 new_section order = record { order = order; interfaces = [] }

@@ -1,14 +1,10 @@
 -- Segments of TCP on the port of a simulator (RFC 9293, 3.1; RFC 791, 3.1; RFC 8200, 3 and 4.5).
-use Rattle.std.specs.Prelude.{ℕ, ◌-◌, ◌*◌, ◌/◌, ◌%◌, ◌<◌, ◌==◌, ◌||◌, nat_lt, not, Bool, true, false, List, length}
+use Rattle.std.specs.Prelude.{ℕ, ◌-◌, ◌*◌, ◌/◌, ◌%◌, ◌==◌, ◌||◌, nat_lt, not, Bool, true, false, List, length}
 use Rattle.std.specs.Prelude.{take, drop, slice_index, Option, Some, None, if◌then◌else◌}
 use Rattle.tpm_pcap.specs.declared.link.Link.{Link}
-use Rattle.tpm_pcap.specs.declared.segment.Found.{Found as RustFound}
-use Rattle.tpm_pcap.specs.declared.segment.Ends.{Ends as RustEnds}
-use Rattle.tpm_pcap.specs.declared.segment.Segment.{Segment as RustSegment}
 use Rattle.tpm_pcap.specs.declared.segment.Sought.{Sought}
 use Rattle.tpm_pcap.specs.Links.{head_size, carries_internet}
 use Rattle.tpm_pcap.specs.Numbers.{number2, number4}
-use Rattle.tpm_pcap.specs.declared.segment.Found.TheVariants as rust
 
 -- a segment on the port: whether it goes to the TPM, the addresses of the client and of the simulator, the client's
 -- port, the number of its first byte, whether it opens its way of the connection, how many bytes it carries, and those
@@ -31,32 +27,10 @@ pub data Found : Type 0 where
   UnknownLink : Found
   OnPort : Segment → Found
 
-abbrev pub segment_as : RustSegment → Segment
-segment_as s = record {
-  to_tpm = s.to_tpm;
-  client = s.client.now;
-  simulator = s.simulator.now;
-  port = s.port;
-  number = s.number;
-  opens = s.opens;
-  size = s.size;
-  payload = s.payload.now;
-}
-
-abbrev pub found_as : RustFound → Found
-found_as rust.Other = Other
-found_as rust.Lacking = Lacking
-found_as rust.Fragment = Fragment
-found_as rust.UnknownLink = UnknownLink
-found_as (rust.Segment s) = OnPort (segment_as s)
-
 -- the addresses of a packet
 pub record Ends : Type 0 where
   pub source : List ℕ
   pub target : List ℕ
-
-abbrev pub ends_as : RustEnds → Ends
-ends_as e = record { source = e.source.now; target = e.target.now }
 
 -- The packet ends before a header does. So it is, or so it was captured.
 abbrev pub lacking : (whole : Bool) → Found
@@ -141,11 +115,3 @@ found_in link sought bytes =
 abbrev pub found_by : Option Link → Sought → List ℕ → Found
 found_by None sought bytes = UnknownLink
 found_by (Some link) sought bytes = found_in link sought bytes
-
--- A packet of the internet has fewer than 2^16 bytes behind its header.
-abbrev pub IsSmall : Found → Type 0
-IsSmall Other = Unit {0}
-IsSmall Lacking = Unit {0}
-IsSmall Fragment = Unit {0}
-IsSmall UnknownLink = Unit {0}
-IsSmall (OnPort s) = s.size < 65536

@@ -4,10 +4,9 @@ use Rattle.std.specs.Prelude.{if◌then◌else◌}
 use Rattle.std.specs.Str.{bytes_eq}
 use Rattle.tpm_pcap.specs.declared.entry.Reason.TheVariants as reasons
 use Rattle.tpm_pcap.specs.declared.entry.Stamp.{Stamp}
-use Rattle.tpm_pcap.specs.declared.talk.Talk.{Talk as RustTalk}
 use Rattle.tpm_pcap.specs.Entries.{Entry, Connection, Untold}
 use Rattle.tpm_pcap.specs.Segments.{Found, Other, Lacking, Fragment, UnknownLink, OnPort, Segment}
-use Rattle.tpm_pcap.specs.Ways.{Way, way_as, new_way, after_segment, segment_told}
+use Rattle.tpm_pcap.specs.Ways.{Way, new_way, after_segment, segment_told}
 
 -- the client's address, the simulator's and the client's port, and both ways
 pub record Talk : Type 0 where
@@ -16,15 +15,6 @@ pub record Talk : Type 0 where
   pub port : ℕ
   pub to : Way
   pub back : Way
-
-abbrev pub talk_as : RustTalk → Talk
-talk_as t = record {
-  client = t.client.now;
-  simulator = t.simulator.now;
-  port = t.port;
-  to = way_as t.to;
-  back = way_as t.back;
-}
 
 abbrev pub new_talk : Talk
 new_talk = record { client = []; simulator = []; port = 0; to = new_way; back = new_way }

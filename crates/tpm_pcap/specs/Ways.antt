@@ -7,7 +7,6 @@ use Rattle.tpm_pcap.specs.declared.message.Measure.TheVariants.{More, Frame, Sil
 use Rattle.tpm_pcap.specs.declared.message.Measure.{Measure}
 use Rattle.tpm_pcap.specs.declared.way.Placing.TheVariants.{InOrder, Before, Ahead}
 use Rattle.tpm_pcap.specs.declared.way.Placing.{Placing}
-use Rattle.tpm_pcap.specs.declared.way.Way.{Way as RustWay}
 use Rattle.tpm_pcap.specs.Entries.{Entry, Untold, frame_entry}
 use Rattle.tpm_pcap.specs.Messages.{measured}
 use Rattle.tpm_pcap.specs.Segments.{Segment}
@@ -18,9 +17,6 @@ pub record Way : Type 0 where
   pub next : Option ℕ
   pub held : List ℕ
   pub lost : Bool
-
-abbrev pub way_as : RustWay → Way
-way_as w = record { next = w.next; held = w.held.items; lost = w.lost }
 
 abbrev pub new_way : Way
 new_way = record { next = None; held = []; lost = false }

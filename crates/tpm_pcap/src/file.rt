@@ -1,12 +1,13 @@
 //! What went over a port, by a file of either format.
 
 ghost use Rattle.std.specs.Prelude.{◌≡◌, ◌≤◌, ◌<◌, ◌+◌, ◌^◌, ◌++◌, length, IfOk, OnOk};
-ghost use Rattle.tpm_pcap.specs.Blocks.{block_as, packet_as, read_as};
+ghost use Rattle.tpm_pcap.specs.inner.Blocks.{block_as, packet_as, read_as};
 ghost use Rattle.tpm_pcap.specs.Entries.{entries_as};
 ghost use Rattle.tpm_pcap.specs.Files.{after_block, after_packet, block_told, ended, Entries, entries_of, next_in};
-ghost use Rattle.tpm_pcap.specs.Files.{on_link, packet_told, reader_as, reader_of, savefile_traffic, traffic_as};
+ghost use Rattle.tpm_pcap.specs.Files.{on_link, packet_told, reader_of, savefile_traffic, traffic_as};
+ghost use Rattle.tpm_pcap.specs.inner.Files.{reader_as};
 ghost use Rattle.tpm_pcap.specs.Files.{traffic_in};
-ghost use Rattle.tpm_pcap.specs.Sections.{section_as};
+ghost use Rattle.tpm_pcap.specs.inner.Sections.{section_as};
 
 use crate::block::{Block, Interface, Packet, Read};
 use crate::entry::{Entry, Reason, Stamp};

@@ -1,7 +1,7 @@
 //! The blocks of a pcapng file (IETF draft-ietf-opsawg-pcapng).
 
 ghost use Rattle.std.specs.Prelude.{◌≡◌, ◌≤◌, ◌<◌, length, IfOk, option_map};
-ghost use Rattle.tpm_pcap.specs.Blocks.{block_as, read_as};
+ghost use Rattle.tpm_pcap.specs.inner.Blocks.{block_as, read_as};
 ghost use Rattle.tpm_pcap.specs.Pcapng.{block_in, enhanced_in, header_in, interface_in, is_length, length_in};
 ghost use Rattle.tpm_pcap.specs.Pcapng.{order_at, order_of, simple_in, told_in};
 

@@ -1,7 +1,7 @@
 //! The files of libpcap (pcap-savefile(5)).
 
 ghost use Rattle.std.specs.Prelude.{◌≡◌, ◌≤◌, ◌<◌, length, IfOk};
-ghost use Rattle.tpm_pcap.specs.Blocks.{read_as};
+ghost use Rattle.tpm_pcap.specs.inner.Blocks.{read_as};
 ghost use Rattle.tpm_pcap.specs.Savefiles.{order_of, per_second, record_in};
 
 use crate::block::{Block, Framed, Packet, Read, Ticks};

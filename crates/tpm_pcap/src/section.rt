@@ -1,10 +1,11 @@
 //! A section of a file.
 
 ghost use Rattle.std.specs.Prelude.{◌≡◌, slice_get};
-ghost use Rattle.tpm_pcap.specs.Blocks.{packet_as};
-ghost use Rattle.tpm_pcap.specs.Sections.{found_of, new_section, packet_time, section_as, simple_packet};
+ghost use Rattle.tpm_pcap.specs.inner.Blocks.{packet_as};
+ghost use Rattle.tpm_pcap.specs.Sections.{found_of, new_section, packet_time, simple_packet};
+ghost use Rattle.tpm_pcap.specs.inner.Sections.{section_as};
 ghost use Rattle.tpm_pcap.specs.Sections.{with_interface};
-ghost use Rattle.tpm_pcap.specs.Segments.{found_as, IsSmall};
+ghost use Rattle.tpm_pcap.specs.inner.Segments.{found_as, IsSmall};
 
 use crate::block::{Interface, Packet, Ticks};
 use crate::numbers::Order;

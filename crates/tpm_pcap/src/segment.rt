@@ -1,8 +1,10 @@
 //! Segments of TCP.
 
 ghost use Rattle.std.specs.Prelude.{◌≡◌, ◌<◌, take, drop};
-ghost use Rattle.tpm_pcap.specs.Segments.{ends_as, fragment, found_as, found_by, found_in, in_internet, in_tcp};
-ghost use Rattle.tpm_pcap.specs.Segments.{in_version4, in_version6, is_on_port, lacking, IsSmall, opens, segment_as};
+ghost use Rattle.tpm_pcap.specs.Segments.{fragment, found_by, found_in, in_internet, in_tcp};
+ghost use Rattle.tpm_pcap.specs.inner.Segments.{ends_as, found_as};
+ghost use Rattle.tpm_pcap.specs.Segments.{in_version4, in_version6, is_on_port, lacking, opens};
+ghost use Rattle.tpm_pcap.specs.inner.Segments.{IsSmall, segment_as};
 ghost use Rattle.tpm_pcap.specs.Segments.{segment_of, tcp_head};
 
 use crate::link::{Link, carries_internet, head_size};

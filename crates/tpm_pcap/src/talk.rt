@@ -2,9 +2,10 @@
 
 ghost use Rattle.std.specs.Prelude.{◌≡◌, ◌<◌, ◌++◌, OnOk};
 ghost use Rattle.tpm_pcap.specs.Entries.{entries_as};
-ghost use Rattle.tpm_pcap.specs.Segments.{found_as, segment_as, IsSmall};
+ghost use Rattle.tpm_pcap.specs.inner.Segments.{found_as, segment_as, IsSmall};
 ghost use Rattle.tpm_pcap.specs.Talks.{after_found, after_matter, after_same, found_told, is_same};
-ghost use Rattle.tpm_pcap.specs.Talks.{matter_told, matters, new_talk, same_told, talk_as, talk_of, unfinished};
+ghost use Rattle.tpm_pcap.specs.Talks.{matter_told, matters, new_talk, same_told, talk_of, unfinished};
+ghost use Rattle.tpm_pcap.specs.inner.Talks.{talk_as};
 
 use crate::entry::{Entry, Reason, Stamp};
 use crate::segment::{Found, Segment};

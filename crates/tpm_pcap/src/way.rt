@@ -2,10 +2,11 @@
 
 ghost use Rattle.std.specs.Prelude.{◌≡◌, ◌<◌, ◌==◌, ◌++◌, IfOk, OnOk, length, take, drop, not};
 ghost use Rattle.tpm_pcap.specs.Entries.{entry_as, entries_as, frame_entry};
-ghost use Rattle.tpm_pcap.specs.Segments.{segment_as};
+ghost use Rattle.tpm_pcap.specs.inner.Segments.{segment_as};
 ghost use Rattle.tpm_pcap.specs.Ways.{after_byte, after_bytes, after_captured, after_segment, byte_told};
 ghost use Rattle.tpm_pcap.specs.Ways.{bytes_told, captured_told, is_before, new_way, number_behind};
-ghost use Rattle.tpm_pcap.specs.Ways.{place_of, resumed, segment_told, way_as};
+ghost use Rattle.tpm_pcap.specs.Ways.{place_of, resumed, segment_told};
+ghost use Rattle.tpm_pcap.specs.inner.Ways.{way_as};
 
 use crate::entry::{Entry, Reason, Stamp};
 use crate::message::{Measure, measured};

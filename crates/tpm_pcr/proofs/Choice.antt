@@ -10,7 +10,7 @@ use Rattle.std.specs.Prelude.{filter}
 use Rattle.tpm_types.specs.Tpma.{mask}
 use Rattle.tpm_types.specs.Tpms.{is_selected}
 use Rattle.tpm_pcr.specs.Registers.{all_registers}
-use Rattle.tpm_pcr.specs.Select.{registers_of, chosen, bits_of}
+use Rattle.tpm_pcr.specs.inner.Select.{registers_of, chosen, bits_of}
 
 -- ---- lists
 

@@ -9,7 +9,7 @@ use Rattle.tpm_types.specs.declared.alg.Alg.{Alg}
 use Rattle.tpm_types.specs.declared.tpms.Selection.{Selection}
 use Rattle.tpm_types.specs.Tpms.{is_selected}
 use Rattle.tpm_pcr.specs.Registers.{all_registers, selected_by, selected_values, select_of, first_selected}
-use Rattle.tpm_pcr.specs.Select.{registers_of, chosen, bits_of, first_of}
+use Rattle.tpm_pcr.specs.inner.Select.{registers_of, chosen, bits_of, first_of}
 use Rattle.tpm_pcr.proofs.Stands.{AreRegisters, are_registers}
 
 -- ---- lists

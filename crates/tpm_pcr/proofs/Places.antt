@@ -9,7 +9,8 @@ use borrow.Rule.Slice.PartMut.{put_mid}
 use Rattle.tpm_types.specs.declared.alg.Alg.{Alg}
 use Rattle.tpm_types.specs.Alg.{bank_place, digest_len}
 use Rattle.tpm_types.proofs.Algs.{same_bank}
-use Rattle.tpm_pcr.specs.Banks.{registers, all_bytes, offset_of, value_at, with_value, Holds}
+use Rattle.tpm_pcr.specs.Banks.{registers, offset_of, value_at}
+use Rattle.tpm_pcr.specs.inner.Banks.{all_bytes, with_value, Holds}
 
 -- ---- places
 

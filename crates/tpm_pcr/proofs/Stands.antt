@@ -7,7 +7,8 @@ use Rattle.tpm_types.specs.Alg.{all_algs}
 use Rattle.tpm_pcr.specs.Registers.Change.{Extend}
 use Rattle.tpm_pcr.specs.Registers.{Change, value_by, register_value, all_registers, banks_of, value_in, updates_by}
 use Rattle.tpm_pcr.specs.Registers.{update_counter, Registers, registers_after}
-use Rattle.tpm_pcr.specs.Banks.{value_at, Holds, changed}
+use Rattle.tpm_pcr.specs.Banks.{value_at}
+use Rattle.tpm_pcr.specs.inner.Banks.{Holds, changed}
 
 -- the value of a register is the one at its place
 pub value_in-banks : (value : Alg → ℕ → List ℕ) (a : Alg) (q : ℕ) → q < 24 → value_in (banks_of value) a q ≡ value a q

@@ -13,8 +13,9 @@ use Rattle.tpm_types.proofs.Algs.{same_bank, same_test}
 use Rattle.tpm_hmac.specs.Hashes.{digest}
 use Rattle.tpm_pcr.specs.Registers.Change.{StartAt, Reset, Extend}
 use Rattle.tpm_pcr.specs.Registers.{filled_with, zeros, extended, is_of, digests_for}
-use Rattle.tpm_pcr.specs.Banks.{registers, all_bytes, offset_of, value_at, with_value, with_values, filled_but_last}
-use Rattle.tpm_pcr.specs.Banks.{Holds, changed}
+use Rattle.tpm_pcr.specs.Banks.{registers, offset_of, value_at}
+use Rattle.tpm_pcr.specs.inner.Banks.{all_bytes, with_value, with_values, filled_but_last}
+use Rattle.tpm_pcr.specs.inner.Banks.{Holds, changed}
 use Rattle.tpm_pcr.proofs.Places.{fits}
 
 -- ---- the start

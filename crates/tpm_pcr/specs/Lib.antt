@@ -1,4 +1,4 @@
 pub mod Registers
 pub mod Banks
-pub mod Select
 pub mod Answers
+pub mod inner

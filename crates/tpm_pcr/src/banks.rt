@@ -7,8 +7,9 @@ ghost use Rattle.tpm_types.specs.Limits.{digest_bytes};
 ghost use Rattle.tpm_hmac.specs.Hashes.{digest as digest_of};
 ghost use Rattle.tpm_pcr.specs.Registers.Change.{Extend};
 ghost use Rattle.tpm_pcr.specs.Registers.{start_value};
-ghost use Rattle.tpm_pcr.specs.Banks.{registers, all_bytes, offset_of, value_at, with_value, with_values};
-ghost use Rattle.tpm_pcr.specs.Banks.{filled_but_last, Holds, changed};
+ghost use Rattle.tpm_pcr.specs.Banks.{registers, offset_of, value_at};
+ghost use Rattle.tpm_pcr.specs.inner.Banks.{all_bytes, with_value, with_values};
+ghost use Rattle.tpm_pcr.specs.inner.Banks.{filled_but_last, Holds, changed};
 
 use tpm_types::{Alg, DIGEST_BYTES, DigestValues, REGISTERS};
 

@@ -10,8 +10,9 @@ ghost use Rattle.tpm_pcr.specs.Registers.{Change, event_digests as event_digests
 ghost use Rattle.tpm_pcr.specs.Registers.{select_of, selections_read, values_read, composite as composite_of};
 ghost use Rattle.tpm_pcr.specs.Registers.{registers_after, value_in};
 ghost use Rattle.tpm_pcr.specs.Answers.{check_extend, check_reset};
-ghost use Rattle.tpm_pcr.specs.Banks.{registers, all_bytes, value_at};
-ghost use Rattle.tpm_pcr.specs.Select.{registers_of, chosen, bits_of, first_of};
+ghost use Rattle.tpm_pcr.specs.Banks.{registers, value_at};
+ghost use Rattle.tpm_pcr.specs.inner.Banks.{all_bytes};
+ghost use Rattle.tpm_pcr.specs.inner.Select.{registers_of, chosen, bits_of, first_of};
 ghost use Rattle.tpm_pcr.specs.Answers.{locality_number, event_answer};
 
 use crate::banks::{BANKS_BYTES, extend, fill_each, start, value};

@@ -19,8 +19,8 @@ use Rattle.tpm_program.specs.declared.fault.Fault.TheVariants.{File, Tool}
 use Rattle.tpm_program.specs.declared.fault.Fault.{Fault}
 use Rattle.tpm_program.specs.Offered.{Offered, OfFile, OfFileIf}
 use Rattle.tpm_program.specs.Performs.{ByFlag, OfAllow, OfAttest, OfFirst, unfailing}
-use Rattle.tpm_program.specs.Fails.{Fails, FailsAt, FailsAtIf, IsNotOpened, IsNotOpenedIf, IsOfReading, IsOpened, IsTooLong, IsUnreadOf}
-use Rattle.tpm_program.specs.Fails.{path_if, read_last}
+use Rattle.tpm_program.specs.Fails.{Fails, IsOpened, IsTooLong, IsUnreadOf, path_if}
+use Rattle.tpm_program.specs.inner.Fails.{FailsAt, FailsAtIf, IsNotOpened, IsNotOpenedIf, IsOfReading, read_last}
 
 -- ---- what is printed
 

@@ -3,3 +3,4 @@ pub mod Performs
 pub mod Fails
 pub mod FaultText
 pub mod Ends
+pub mod inner

@@ -2,7 +2,7 @@
 
 ghost use Rattle.std.specs.Prelude.{◌≡◌, Ok, IfOk, IfErr, option_map};
 ghost use Rattle.tpm_program.specs.Offered.{OfFileIf};
-ghost use Rattle.tpm_program.specs.Fails.{IsNotOpened, IsNotOpenedIf, IsOfReading};
+ghost use Rattle.tpm_program.specs.inner.Fails.{IsNotOpened, IsNotOpenedIf, IsOfReading};
 
 use crate::cause::Cause;
 use crate::fault::Fault;

@@ -10,7 +10,8 @@ ghost use Rattle.tpm_args.specs.declared.task.Task.TheVariants.{Check, Events};
 ghost use Rattle.tpm_program.specs.Offered.{OfFile};
 ghost use Rattle.tpm_program.specs.Performs.{OfAllow, OfAttest, OfFirst, Performs, PrintsAsked, PrintsChecked};
 ghost use Rattle.tpm_program.specs.Performs.{PrintsEvents};
-ghost use Rattle.tpm_program.specs.Fails.{Fails, FailsAt, FailsAtIf, read_last};
+ghost use Rattle.tpm_program.specs.Fails.{Fails};
+ghost use Rattle.tpm_program.specs.inner.Fails.{FailsAt, FailsAtIf, read_last};
 
 use crate::fault::Fault;
 use crate::files::{of_reading, opened, opened_if};

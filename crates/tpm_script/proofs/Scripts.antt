@@ -13,7 +13,7 @@ use Rattle.tpm_script.specs.Script.{Line, Blank, Power, Command, NotHexadecimal,
 use Rattle.tpm_script.specs.Script.{AreAnswered, IsRefusedIn, IsRefusedLine, IsUnrefused, events_from, script_from}
 use Rattle.tpm_script.specs.Script.{script, events_text, refused_text, script_text, status_for, ReadsNoFurther}
 use Rattle.tpm_script.specs.Script.{ReadsScript, ReadsTooMuch, most_digits}
-use Rattle.tpm_script.specs.Progress.{Runs, RunsTo, StandsAt, digits, next_command}
+use Rattle.tpm_script.specs.inner.Progress.{Runs, RunsTo, StandsAt, digits, next_command}
 use Rattle.tpm_output.specs.declared.status.Status.TheVariants.{Done, Refused}
 use Rattle.tpm_output.specs.declared.status.Status.{Status}
 use Rattle.tpm_output.specs.Text.{bytes_line, line}

@@ -1,4 +1,4 @@
 pub mod Script
-pub mod Progress
 pub mod MemoryText
 pub mod ShowNv
+pub mod inner

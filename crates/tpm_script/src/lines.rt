@@ -2,7 +2,7 @@
 
 ghost use Rattle.std.specs.Prelude.{◌≡◌, IfOk};
 ghost use Rattle.tpm_script.specs.Script.{is_skipped, line_of, nonce_of};
-ghost use Rattle.tpm_script.specs.Progress.{read_as};
+ghost use Rattle.tpm_script.specs.inner.Progress.{read_as};
 
 use std::alloc::{AllocError, Global};
 use tpm_output::hexadecimal::decoded;

@@ -12,7 +12,7 @@ ghost use Rattle.tpm_output.specs.InputLines.{AddedTo, CountsRead};
 ghost use Rattle.tpm_output.specs.LineSinks.{OnTrue, some_if};
 ghost use Rattle.tpm_script.specs.Script.{AreAnswered, nonce_of, refused_line, script, script_text, status_for};
 ghost use Rattle.tpm_script.specs.Script.{ReadsNoFurther, ReadsScript, ReadsTooMuch};
-ghost use Rattle.tpm_script.specs.Progress.{GoesThrough, Runs};
+ghost use Rattle.tpm_script.specs.inner.Progress.{GoesThrough, Runs};
 
 use crate::lines::{Line, MOST_DIGITS, nonce, read_line};
 use std::alloc::{AllocError, Global};
@@ -53,7 +53,7 @@ fn push_response(
 }
 
 // Cycles the power, and adds the line of it.
-#[tactic(auto, unfolding(crate::specs::Progress::StandsAt))]
+#[tactic(auto, unfolding(crate::specs::inner::Progress::StandsAt))]
 fn push_power(text: &mut String, device: &mut Device) -> Pushed
     ensures { OnOk result ((added : List ℕ)
         × AddedTo (string_bytes text.old) (string_bytes text.new) added
@@ -112,7 +112,7 @@ impl Run {
 }
 
 impl LineSink for Run {
-    ghost use Rattle.tpm_script.specs.Progress.{Runs, digits};
+    ghost use Rattle.tpm_script.specs.inner.Progress.{Runs, digits};
 
     ghost limits = { digits };
 

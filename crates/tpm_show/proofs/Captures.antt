@@ -12,7 +12,7 @@ use Rattle.tpm_show.specs.declared.telling.Telling.{Telling}
 use Rattle.tpm_show.specs.declared.capture.Capture.{Capture}
 use Rattle.tpm_show.specs.Capture.{Line, CapturePlace, start, behind, told_in, line_of, most_line, most_bytes, without_blanks}
 use Rattle.tpm_show.specs.Capture.{TellsLine, TellsFrom, TellsCapture, TellsEnded, ReadsAll}
-use Rattle.tpm_show.specs.Capturing.{place, behind_all, capture_line, TellsNext, TellsStep}
+use Rattle.tpm_show.specs.inner.Capturing.{place, behind_all, capture_line, TellsNext, TellsStep}
 use Rattle.tpm_show.specs.Capture as specs
 
 -- ---- statuses

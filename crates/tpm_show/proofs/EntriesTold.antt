@@ -13,10 +13,10 @@ use Rattle.tpm_output.proofs.Joins.{Joins}
 use Rattle.tpm_show.specs.declared.capture.Capture.{Capture}
 use Rattle.tpm_show.specs.declared.telling.Telling.{Telling}
 use Rattle.tpm_show.specs.Capture.{CapturePlace, start}
-use Rattle.tpm_show.specs.Capturing.{place}
+use Rattle.tpm_show.specs.inner.Capturing.{place}
 use Rattle.tpm_show.specs.Packets.{behind_entry, TellsEntry, TellsEntries, TellsTraffic}
 use Rattle.tpm_show.specs.Reports.{IsReport, no_packet_report}
-use Rattle.tpm_show.specs.PacketsTold.{behind_entries, TellsOne, TellsMany}
+use Rattle.tpm_show.specs.inner.PacketsTold.{behind_entries, TellsOne, TellsMany}
 use Rattle.tpm_show.proofs.Captures.{both_assoc, both_done}
 
 behind-append : (p : CapturePlace) (xs ys : List Entry) → behind_entries p (xs ++ ys) ≡ behind_entries (behind_entries p xs) ys

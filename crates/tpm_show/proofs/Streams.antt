@@ -17,7 +17,7 @@ use Rattle.tpm_output.proofs.Joins.{Joins}
 use Rattle.tpm_show.specs.declared.telling.Telling.{Telling}
 use Rattle.tpm_show.specs.declared.capture.Capture.{Capture}
 use Rattle.tpm_show.specs.Capture.{Frame, CapturePlace, start, behind, most_bytes}
-use Rattle.tpm_show.specs.Capturing.{place, behind_all, TellsNext, Streams}
+use Rattle.tpm_show.specs.inner.Capturing.{place, behind_all, TellsNext, Streams}
 use Rattle.tpm_show.specs.Reports.{IsReportOrNothing}
 use Rattle.tpm_show.specs.Reports.{IsReportOrNothing}
 use Rattle.tpm_show.specs.Stream.{Ending, AtEnd, Inside, BadSize, IsEnding, unmarked_frame, ending_report, ending_status}

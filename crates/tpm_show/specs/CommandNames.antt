@@ -1,6 +1,5 @@
 -- The commands of the library by their names (Part 2, 6.5.2, TPM_CC), and how many handles each has (Part 3).
 use Rattle.std.specs.Prelude.{ℕ, ◌==◌, List, [], ◌∷◌, codes, Option, find}
-use Rattle.tpm_show.specs.declared.command_names.Listed.{Listed as RustListed}
 
 -- a command's number, its name without TPM_CC_, and how many handles it and its response have
 pub record Listed : Type 0 where
@@ -12,9 +11,6 @@ pub record Listed : Type 0 where
 abbrev pub listed : ℕ → List ℕ → ℕ → ℕ → Listed
 listed number name handles reply_handles =
     record { number = number; name = name; handles = handles; reply_handles = reply_handles }
-
-abbrev pub listed_as : RustListed → Listed
-listed_as c = listed c.number c.name.now c.handles c.reply_handles
 
 abbrev pub commands : List Listed
 commands =

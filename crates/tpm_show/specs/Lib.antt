@@ -14,11 +14,8 @@ pub mod Refusals
 pub mod Show
 pub mod Capture
 pub mod Stream
-pub mod Capturing
 pub mod Packets
-pub mod PacketsTold
 pub mod Build
-pub mod Building
 pub mod Layers
 pub mod Explain
 pub mod CommandNames
@@ -29,4 +26,4 @@ pub mod Pieces
 pub mod Passages
 pub mod FrameLines
 pub mod Reports
-pub mod Remarks
+pub mod inner

@@ -34,11 +34,6 @@ pub data Piece : Type 0 where
   -- why a reply is not told
   Untold : (sentence : List ℕ) → Piece
 
--- a field, and how far in its line stands
-pub record IndentedField : Type 0 where
-  pub indent : List ℕ
-  pub named : Field
-
 -- ---- lists
 
 abbrev pub list_told : (name : List ℕ) → List Piece → List Piece

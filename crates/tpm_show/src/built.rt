@@ -6,7 +6,7 @@ ghost use Rattle.tpm_output.specs.Faults.{FailsByMemoryOrWrite};
 ghost use Rattle.tpm_show.specs.Build.{part_of, Becomes, NoDigits, OfBytes, OfParts, Outcome, RefusedFor, Spelled};
 ghost use Rattle.tpm_show.specs.Build.{digits_remark, parameters_at, part_name, place_of, refused_in, refused_remark};
 ghost use Rattle.tpm_show.specs.Build.{remark_of, status_of, text_of};
-ghost use Rattle.tpm_show.specs.Building.{lengths_as, place_as, TextOf};
+ghost use Rattle.tpm_show.specs.inner.Building.{lengths_as, place_as, TextOf};
 
 use crate::frame_header::push_code_name;
 use std::alloc::{AllocError, Global};

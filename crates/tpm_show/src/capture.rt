@@ -11,7 +11,7 @@ ghost use Rattle.tpm_output.specs.InputLines.{AddedTo, CountsRead};
 ghost use Rattle.tpm_show.specs.declared.capture_frames.Awaited.TheVariants.{Unknown};
 ghost use Rattle.tpm_show.specs.Capture.{Frame, frame_at, start, TellsCapture, TellsFrame, ReadsAll};
 ghost use Rattle.tpm_show.specs.Capture.{ReadsTooMuchCapture, TellsEnded};
-ghost use Rattle.tpm_show.specs.Capturing.{frame_as, read_as, place, Passes, TellsNext};
+ghost use Rattle.tpm_show.specs.inner.Capturing.{frame_as, read_as, place, Passes, TellsNext};
 ghost use Rattle.tpm_show.specs.Members.{object_of};
 ghost use Rattle.tpm_show.specs.Pieces.{Piece};
 ghost use Rattle.tpm_show.specs.Reports.{IsObjectLine, IsReport, fault_report, frame_report, front, front_members};
@@ -245,7 +245,7 @@ impl Capture {
 }
 
 impl LineSink for Capture {
-    ghost use Rattle.tpm_show.specs.Capturing.{TellsStep, capture_line};
+    ghost use Rattle.tpm_show.specs.inner.Capturing.{TellsStep, capture_line};
 
     ghost limits = { capture_line };
 

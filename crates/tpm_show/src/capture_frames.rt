@@ -3,8 +3,9 @@
 ghost use Rattle.std.specs.Prelude.{◌≡◌, ◌++◌, [], ◌∷◌, List, IfOk, Some, flat_map};
 ghost use Rattle.tpm_show.specs.Capture.{answered_code, awaited_behind, code_number_in, direction_of, is_code_alone};
 ghost use Rattle.tpm_show.specs.Capture.{is_response, TellsFrame, TellsOther, TellsRest};
-ghost use Rattle.tpm_show.specs.Capturing.{frame_as};
-ghost use Rattle.tpm_show.specs.CommandNames.{command_of, listed_as};
+ghost use Rattle.tpm_show.specs.inner.Capturing.{frame_as};
+ghost use Rattle.tpm_show.specs.CommandNames.{command_of};
+ghost use Rattle.tpm_show.specs.inner.CommandNames.{listed_as};
 ghost use Rattle.tpm_show.specs.Pieces.{Piece, Untold};
 ghost use Rattle.tpm_show.specs.Refusals.{CommandBytes, ReplyBytes, TellsBuffer};
 ghost use Rattle.tpm_output.specs.declared.status.Status.TheVariants.{Refused};

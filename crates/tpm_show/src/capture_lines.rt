@@ -3,7 +3,7 @@
 ghost use Rattle.std.specs.Prelude.{◌≡◌, IfOk};
 ghost use Rattle.tpm_show.specs.Capture.{told_in, frame_of};
 ghost use Rattle.tpm_show.specs.Digits.{without_prefix};
-ghost use Rattle.tpm_show.specs.Capturing.{read_as};
+ghost use Rattle.tpm_show.specs.inner.Capturing.{read_as};
 ghost use Rattle.tpm_output.specs.Text.{bytes_in};
 
 use crate::digits::without_prefix;

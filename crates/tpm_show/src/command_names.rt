@@ -1,7 +1,8 @@
 //! The commands of the library by their names.
 
 ghost use Rattle.std.specs.Prelude.{◌≡◌, map, option_map};
-ghost use Rattle.tpm_show.specs.CommandNames.{command_of, listed_as, listed_in};
+ghost use Rattle.tpm_show.specs.CommandNames.{command_of, listed_in};
+ghost use Rattle.tpm_show.specs.inner.CommandNames.{listed_as};
 
 /// A command of the library.
 #[derive(Clone, Copy)]

@@ -29,7 +29,8 @@ pub(crate) struct Field(
 );
 
 impl Model for Field {
-    ghost use Rattle.tpm_show.specs.Pieces.{IndentedField, named};
+    ghost use Rattle.tpm_show.specs.Pieces.{named};
+    ghost use Rattle.tpm_show.specs.inner.Pieces.{IndentedField};
 
     ghost Value = { IndentedField };
 

@@ -2,7 +2,7 @@
 
 ghost use Rattle.std.specs.Prelude.{◌≡◌, ◌++◌, IfOk, map, option_map, string_bytes};
 ghost use Rattle.tpm_output.specs.Named.{named_as};
-ghost use Rattle.tpm_show.specs.CommandNames.{listed_as};
+ghost use Rattle.tpm_show.specs.inner.CommandNames.{listed_as};
 ghost use Rattle.tpm_show.specs.FieldNames.{algorithms, command_in, command_text, is_handle, name_of, name_text};
 ghost use Rattle.tpm_show.specs.FieldNames.{named_of, names_for, number_in, session_types, startup_types, value_name};
 

@@ -3,7 +3,7 @@
 ghost use Rattle.std.specs.Prelude.{◌≡◌, ◌<◌, ◌^◌, IfSome, Some, length, option_map};
 ghost use Rattle.tpm_wire.specs.Buffers.{TakesAs, TakesNumbered};
 ghost use Rattle.tpm_wire.specs.Reading.{read_all};
-ghost use Rattle.tpm_show.specs.CommandNames.{listed_as};
+ghost use Rattle.tpm_show.specs.inner.CommandNames.{listed_as};
 ghost use Rattle.tpm_show.specs.Library.{any_handles, behind_whole, command_sessions, sessions_area, command_areas};
 ghost use Rattle.tpm_show.specs.Library.{behind_handles, command_areas_of, library_command, library_response};
 ghost use Rattle.tpm_show.specs.Library.{response_areas, response_areas_of, response_sessions};

@@ -8,7 +8,7 @@ ghost use Rattle.tpm_output.specs.Faults.{FailsByMemoryOrWrite};
 ghost use Rattle.tpm_output.specs.InputLines.{AddedTo};
 ghost use Rattle.tpm_show.specs.Capture.{start};
 ghost use Rattle.tpm_show.specs.Packets.{awaited_past, reason_text, TellsEntries, TellsPackets, TellsTraffic};
-ghost use Rattle.tpm_show.specs.PacketsTold.{TellsOne};
+ghost use Rattle.tpm_show.specs.inner.PacketsTold.{TellsOne};
 
 use crate::capture::Capture;
 use crate::capture_frames::Awaited;

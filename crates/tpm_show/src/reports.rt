@@ -5,7 +5,7 @@ ghost use Rattle.std.specs.Io.KnownBytes.{Appends};
 ghost use Rattle.tpm_output.specs.declared.status.Status.TheVariants.{Refused};
 ghost use Rattle.tpm_output.specs.Faults.{FailsByMemoryOrWrite};
 ghost use Rattle.tpm_show.specs.Members.{number_member, object_of, text_member};
-ghost use Rattle.tpm_show.specs.Remarks.{report_of};
+ghost use Rattle.tpm_show.specs.inner.Remarks.{report_of};
 ghost use Rattle.tpm_show.specs.Reports.{IsObjectLine, IsReport, at_member, fault_member, link_fault, no_packet};
 
 use crate::object::Object;

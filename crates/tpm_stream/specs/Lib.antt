@@ -1,3 +1,4 @@
 pub mod Frames
 pub mod Reads
 pub mod Streams
+pub mod inner

@@ -2,7 +2,8 @@
 
 ghost use Rattle.std.specs.Prelude.{◌≡◌, ◌≤◌, ◌++◌, ◌⊎◌, ℕ, true, List, [], length, drop, Ok, IfErr, IsErrOf};
 ghost use Rattle.tpm_stream.specs.declared.reader.ReadFault.TheVariants.{Device, Broken};
-ghost use Rattle.tpm_stream.specs.Reads.{Fills, CountsDevice, EndsFill, ReadsFrame, ReadsInto, IsBuffer};
+ghost use Rattle.tpm_stream.specs.Reads.{CountsDevice, ReadsFrame, ReadsInto};
+ghost use Rattle.tpm_stream.specs.inner.Reads.{Fills, EndsFill, IsBuffer};
 ghost use Rattle.tpm_stream.specs.Reads.{ends_for, ends_into};
 ghost use Rattle.tpm_wire.specs.Sources.{CountsFailures, IsWhereItFailed, MeetsEnds};
 

@@ -1,5 +1,5 @@
 -- The hash algorithms of this profile: TPMI_ALG_HASH (Part 2, 9.27, with the numbers of 6.3).
-use Rattle.std.specs.Prelude.{◌≡◌, ℕ, Option, Some, None, ◌==◌, if◌then◌else◌, List, [], ◌∷◌, codes, length}
+use Rattle.std.specs.Prelude.{ℕ, Option, Some, None, ◌==◌, if◌then◌else◌, List, [], ◌∷◌, codes}
 use Rattle.tpm_wire.specs.Buffers.{Layout}
 use Rattle.tpm_wire.specs.Layout.Form.{number}
 use Rattle.tpm_wire.specs.ResponseCodes.{rc_hash}
@@ -46,7 +46,3 @@ bank_place Sha384 = 2
 
 unfoldable pub hash : Layout Alg
 hash = number 2 (λ left. alg_of) alg_number rc_hash
-
--- the digest is as long as those of its hash
-abbrev pub IsDigestValue : Alg × List ℕ → Type 0
-IsDigestValue d = length d.1 ≡ digest_len d.0

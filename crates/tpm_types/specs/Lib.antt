@@ -10,3 +10,4 @@ pub mod Tpms
 pub mod Tpml
 pub mod Tpmt
 pub mod Attest
+pub mod inner

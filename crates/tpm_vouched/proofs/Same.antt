@@ -18,7 +18,7 @@ use Rattle.tpm_log.specs.declared.algorithm_size.AlgorithmSize.{AlgorithmSize}
 use Rattle.tpm_event_data.specs.Events.{Shown}
 use Rattle.tpm_log.specs.Events.{shown}
 use Rattle.tpm_log.specs.Records.{LogRecord, bank_digests}
-use Rattle.tpm_log.specs.Measurements.{HasLength, IsDigestOf}
+use Rattle.tpm_log.specs.inner.Measurements.{HasLength, IsDigestOf}
 use Rattle.tpm_log.proofs.Sound.{IsSound, log_ok}
 use Rattle.tpm_vouched.specs.Extends.{digests_extended, digests_extending, extends, value_before, value_left, values_hashed}
 use Rattle.tpm_vouched.specs.Vouched.{AreApart, AreSame, Measured, ReadLog, SameMeasured, SameText, TextOfPart, measured, measured_by}

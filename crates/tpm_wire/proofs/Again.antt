@@ -6,7 +6,8 @@ use Rattle.std.proofs.lemmas.List.Elements.{All-head, All-tail}
 use Rattle.std.proofs.lemmas.List.{take_at, drop_at, length-append, append-nil}
 use Rattle.std.specs.Prelude.{◌&&◌}
 use Rattle.std.specs.Int.{bytes_high_first}
-use Rattle.tpm_wire.specs.Rules.{Rules, IsRoomy}
+use Rattle.tpm_wire.specs.Rules.{Rules}
+use Rattle.tpm_wire.specs.inner.Rules.{IsRoomy}
 use Rattle.tpm_wire.specs.Token.{Here}
 use Rattle.tpm_wire.specs.Layout.{Form}
 use Rattle.tpm_wire.specs.Reading.{entries, read, read_all}

@@ -6,7 +6,8 @@ use Rattle.tpm_wire.specs.declared.refusal.Refusal.{Refusal}
 use Rattle.tpm_wire.specs.Token.{number_of, Here, past, or_fault}
 use Rattle.tpm_wire.specs.Layout.{Form}
 use Rattle.tpm_wire.specs.Reading.{refuse, unless, found, entries, read, ◌>>=◌}
-use Rattle.tpm_wire.specs.Buffers.{buffer, Layout, later_place, later_refusal}
+use Rattle.tpm_wire.specs.Buffers.{buffer, Layout, later_refusal}
+use Rattle.tpm_wire.specs.inner.Buffers.{later_place}
 
 -- so many bytes further on
 abbrev pub later : {A : Type 0} → ℕ → Result (A × Here) Refusal → Result (A × Here) Refusal

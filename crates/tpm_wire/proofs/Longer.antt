@@ -9,7 +9,8 @@ use Rattle.tpm_wire.specs.Rules.{Rules, IsSound}
 use Rattle.tpm_wire.specs.Token.{number_of, Here, past, or_fault}
 use Rattle.tpm_wire.specs.Layout.{Form, raw}
 use Rattle.tpm_wire.specs.Reading.{read, unless, found, refuse, entries, ◌>>=◌}
-use Rattle.tpm_wire.specs.Longer.{with_more, IsAlike, IsReadOn}
+use Rattle.tpm_wire.specs.Longer.{with_more, IsReadOn}
+use Rattle.tpm_wire.specs.inner.Longer.{IsAlike}
 use Rattle.tpm_wire.specs.Buffers.{buffer, Layout, number_in}
 use Rattle.tpm_wire.specs.ResponseCodes.{rc_size}
 use Rattle.tpm_wire.specs.Spelling.{spelling}

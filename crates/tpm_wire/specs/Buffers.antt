@@ -59,10 +59,6 @@ abbrev pub TakesNumbered : {X A : Type 0} → (X → A) → Layout A → Place �
 TakesNumbered view l old new (Ok x) = read 0 l old.here ≡ Ok (view x, new.here)
 TakesNumbered view l old new (Err e) = read 0 l old.here ≡ Err e
 
--- the same rest of an area, so many bytes further on
-abbrev pub later_place : ℕ → Here → Here
-later_place k h = record { rest = h.rest; at = h.at + k }
-
 -- the same fault, so many bytes further on
 abbrev pub later_refusal : ℕ → Refusal → Refusal
 later_refusal k e = record { code = e.code; at = e.at + k }

@@ -1,15 +1,10 @@
 -- Bytes, with more behind them.
-use Rattle.std.specs.Prelude.{◌≡◌, ◌≤◌, ℕ, List, ◌++◌, Result, Ok, Err}
-use Rattle.tpm_wire.specs.Rules.{Rules}
+use Rattle.std.specs.Prelude.{◌≡◌, ℕ, List, ◌++◌, Result, Ok, Err}
 use Rattle.tpm_wire.specs.Token.{Here}
 
 -- the same place, with more bytes behind those from it on
 abbrev pub with_more : List ℕ → Here → Here
 with_more more h = record { rest = h.rest ++ more; at = h.at }
-
--- A token that is in its area lacks the same, however many bytes are left in it.
-abbrev pub IsAlike : Rules → Type 0
-IsAlike r = (mark : r.Mark) (at n left more : ℕ) → n ≤ left → n ≤ more → r.lacks mark at n more ≡ r.lacks mark at n left
 
 -- What was read, a value or a fault that is final, is read of the longer bytes too.
 abbrev pub IsReadOn : {A E : Type 0} → (E → Type 0) → List ℕ → Result (A × Here) E → Result (A × Here) E → Type 0

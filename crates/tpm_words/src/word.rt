@@ -3,7 +3,7 @@
 ghost use Rattle.std.specs.Prelude.{◌≡◌, IfOk, false, map};
 ghost use Rattle.clap.specs.Words.{app_of, rule_of};
 ghost use Rattle.tpm_words.specs.Program.{with_rules, IsApp, IsLocal};
-ghost use Rattle.tpm_words.specs.Word.{rule_of_word};
+ghost use Rattle.tpm_words.specs.inner.Word.{rule_of_word};
 
 use clap::{Arg, ArgAction, Command};
 use std::alloc::{AllocError, Global};

@@ -9,7 +9,8 @@ use Rattle.tpm_wire.specs.Buffers.{Place}
 use Rattle.tpm_commands.specs.Handles.{handles}
 use Rattle.tpm_commands.specs.Parameters.{parameters}
 use Rattle.tpm_buffer.specs.Commands.{header, authorization, body_from, params_of, before_params}
-use Rattle.tpm_buffer.specs.CommandAreas.{Cut, checked, cut_of}
+use Rattle.tpm_buffer.specs.CommandAreas.{Cut, checked}
+use Rattle.tpm_buffer.specs.inner.CommandAreas.{cut_of}
 use Rattle.tpm_buffer.proofs.Canonical.{canonical}
 use Rattle.tpm_buffer.proofs.Staged.{areas_fault, params_fault, left_over, command_is}
 use Rattle.tpm_buffer.proofs.command_decode.read_command.Goals as goal

@@ -2,7 +2,7 @@ use Rattle.std.proofs.Common.{sym, subst}
 use Rattle.tpm_wire.specs.Buffers.{Place}
 use Rattle.tpm_buffer.specs.Commands.{authorization_size}
 use Rattle.tpm_buffer.specs.ResponseAreas.{IsPlaceIn}
-use Rattle.tpm_buffer.specs.CommandAreas.{LiesIn}
+use Rattle.tpm_buffer.specs.inner.CommandAreas.{LiesIn}
 use Rattle.tpm_buffer.proofs.Places.{stands_behind}
 use Rattle.tpm_buffer.proofs.Sessions.{lies_inside}
 use Rattle.tpm_buffer.proofs.command_sessions.take_authorization.Goals as goal

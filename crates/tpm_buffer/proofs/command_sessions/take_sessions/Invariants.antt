@@ -4,7 +4,8 @@ use Rattle.tpm_wire.specs.ResponseCodes.{of_session}
 use Rattle.tpm_wire.specs.Reading.{read, entries}
 use Rattle.tpm_wire.specs.Spelling.{joined_all}
 use Rattle.tpm_types.specs.Tpms.{auth_command}
-use Rattle.tpm_buffer.specs.CommandAreas.{LiesIn, IsSession, sessions_at}
+use Rattle.tpm_buffer.specs.CommandAreas.{IsSession, sessions_at}
+use Rattle.tpm_buffer.specs.inner.CommandAreas.{LiesIn}
 use Rattle.tpm_buffer.proofs.command_sessions.take_sessions.Given as goal
 
 abbrev pub invariant-loop-positions : goal.invariant-loop-positions

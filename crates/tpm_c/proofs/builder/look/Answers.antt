@@ -2,7 +2,7 @@ use Rattle.std.proofs.Common.{◌≡◌, List, ℕ, subst, ◌∙◌}
 use Rattle.tpm_wire.specs.Path.{Fault}
 use Rattle.tpm_buffer.specs.Commands.{command}
 use Rattle.tpm_buffer.proofs.Staged.{of_before}
-use Rattle.tpm_c.specs.Builds.{HasFront}
+use Rattle.tpm_c.specs.inner.Builds.{HasFront}
 use Rattle.tpm_c.proofs.Judging.{front_of}
 use Rattle.tpm_c.proofs.builder.look.Goals as goal
 

@@ -23,7 +23,8 @@ use Rattle.tpm_c.proofs.kept.is_refused.Met.{met as judges}
 use Rattle.tpm_c.proofs.kept.read.Met.{met as reads}
 use Rattle.tpm_c.proofs.device.tpm_device_init.Met.{met as makes_one}
 use Rattle.tpm_c.specs.Devices.{fits, room_if, new_if, made_at, whether_fits}
-use Rattle.tpm_c.specs.KeptDevices.{IsAgain, IsJudged, SpellsNvMemory, is_made, again_if}
+use Rattle.tpm_c.specs.KeptDevices.{IsAgain, is_made, again_if}
+use Rattle.tpm_c.specs.inner.KeptDevices.{IsJudged, SpellsNvMemory}
 use Rattle.tpm_c.specs.contracts.part.TpmRefusal.{the_row as told}
 use Rattle.tpm_model.specs.Steps.{Origin, new_origin}
 use Rattle.tpm_device.specs.declared.device.Device.{Device}

@@ -2,7 +2,7 @@ use Rattle.std.proofs.Common.{◌≡◌, ◌∙◌, ◌||◌, ◌++◌, Bool, ap
 use Rattle.tpm_output.specs.Status.{both}
 use Rattle.tpm_output.proofs.Joins.{joins_appends}
 use Rattle.tpm_check.specs.Compare.{compared}
-use Rattle.tpm_check.specs.Told.{told}
+use Rattle.tpm_check.specs.inner.Told.{told}
 use Rattle.tpm_check.proofs.Verdicts.{all_compared, all_ended}
 use Rattle.tpm_check.proofs.checked.print_compared.Goals as goal
 

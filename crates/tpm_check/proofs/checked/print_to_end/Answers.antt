@@ -2,7 +2,7 @@ use Rattle.std.proofs.Common.{◌++◌, option_map}
 use Rattle.std.proofs.lemmas.Result.{IfOk-weaker}
 use Rattle.tpm_output.proofs.Joins.{joins_appends}
 use Rattle.tpm_check.specs.CheckJson.{ok_text}
-use Rattle.tpm_check.specs.Told.{told}
+use Rattle.tpm_check.specs.inner.Told.{told}
 use Rattle.tpm_check.proofs.Verdicts.{to_end}
 use Rattle.tpm_check.proofs.checked.print_to_end.Goals as goal
 

@@ -1,6 +1,6 @@
 use Rattle.std.proofs.Common.{◌≡◌, ◌+◌, ◌-◌, ◌≤◌, ℕ, List, length}
 use Rattle.std.specs.Io.KnownBytes.{Appends, Consumes}
-use Rattle.tpm_output.specs.LineReading.{Holds}
+use Rattle.tpm_output.specs.inner.LineReading.{Holds}
 use Rattle.tpm_output.proofs.input_lines.take_lines.Given as goal
 
 -- the bytes so far are taken, and are not too many

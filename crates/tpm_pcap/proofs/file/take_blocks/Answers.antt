@@ -2,9 +2,10 @@ use Rattle.std.proofs.Common.{◌≡◌, [], ◌∷◌, Ok, Err, sym, ap, ◌∙
 use Rattle.std.proofs.lemmas.List.{map-append}
 use Rattle.std.proofs.lemmas.Result.{on_ok_weaker}
 use Rattle.tpm_pcap.specs.declared.entry.Entry.TheVariants.{Untold}
-use Rattle.tpm_pcap.specs.Blocks.{framed_as}
+use Rattle.tpm_pcap.specs.inner.Blocks.{framed_as}
 use Rattle.tpm_pcap.specs.Entries.{entries_as, entry_as}
-use Rattle.tpm_pcap.specs.Files.{Reader, next_in, reader_as}
+use Rattle.tpm_pcap.specs.Files.{Reader, next_in}
+use Rattle.tpm_pcap.specs.inner.Files.{reader_as}
 use Rattle.tpm_pcap.proofs.Reading.{added, at_most_one, goes, stops}
 use Rattle.tpm_pcap.proofs.file.take_blocks.Goals as goal
 

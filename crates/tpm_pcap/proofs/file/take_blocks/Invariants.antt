@@ -1,7 +1,8 @@
 use Rattle.std.proofs.Common.{◌≡◌, ℕ, ◌+◌, ◌≤◌, ◌++◌, length}
 use Rattle.tpm_pcap.specs.Entries.{entries_as}
-use Rattle.tpm_pcap.specs.Files.{entries_from, entries_of, reader_as}
-use Rattle.tpm_pcap.specs.Sections.{section_as}
+use Rattle.tpm_pcap.specs.Files.{entries_from, entries_of}
+use Rattle.tpm_pcap.specs.inner.Files.{reader_as}
+use Rattle.tpm_pcap.specs.inner.Sections.{section_as}
 use Rattle.tpm_pcap.proofs.file.take_blocks.Given as goal
 
 -- What comes of the blocks from here on is what is left of what comes of all.

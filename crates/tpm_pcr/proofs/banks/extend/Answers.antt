@@ -2,7 +2,7 @@ use Rattle.std.proofs.Common.{◌≡◌, ◌+◌, List, ◌∷◌, [], ◌++◌,
 use Rattle.std.proofs.lemmas.List.{take_all, take_more}
 use Rattle.tpm_types.specs.declared.alg.Alg.{Alg}
 use Rattle.tpm_pcr.specs.Registers.Change.{Extend}
-use Rattle.tpm_pcr.specs.Banks.{Holds, changed}
+use Rattle.tpm_pcr.specs.inner.Banks.{Holds, changed}
 use Rattle.tpm_pcr.proofs.Values.{extend_more}
 use Rattle.tpm_pcr.proofs.banks.extend.Goals as goal
 

@@ -1,6 +1,6 @@
 use Rattle.std.specs.Prelude.{◌≡◌, length, take}
 use Rattle.tpm_pcr.specs.Registers.Change.{Extend}
-use Rattle.tpm_pcr.specs.Banks.{Holds, changed}
+use Rattle.tpm_pcr.specs.inner.Banks.{Holds, changed}
 use Rattle.tpm_pcr.proofs.banks.extend.Given as goal
 
 abbrev pub invariant-loop-entry : goal.invariant-loop-entry

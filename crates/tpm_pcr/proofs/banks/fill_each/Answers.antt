@@ -1,6 +1,6 @@
 use Rattle.std.proofs.Common.{◌∙◌, arith, refl}
 use Rattle.tpm_types.proofs.Algs.{bank_at}
-use Rattle.tpm_pcr.specs.Banks.{filled_but_last}
+use Rattle.tpm_pcr.specs.inner.Banks.{filled_but_last}
 use Rattle.tpm_pcr.proofs.Values.{first_none, first_more, first_all}
 use Rattle.tpm_pcr.proofs.banks.fill_each.Goals as goal
 

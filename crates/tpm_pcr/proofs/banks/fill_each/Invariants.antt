@@ -1,5 +1,6 @@
 use Rattle.std.specs.Prelude.{◌≡◌, length}
-use Rattle.tpm_pcr.specs.Banks.{Holds, value_at, filled_but_last}
+use Rattle.tpm_pcr.specs.Banks.{value_at}
+use Rattle.tpm_pcr.specs.inner.Banks.{Holds, filled_but_last}
 use Rattle.tpm_pcr.proofs.Values.{with_first}
 use Rattle.tpm_pcr.proofs.banks.fill_each.Given as goal
 

@@ -1,4 +1,4 @@
-use Rattle.tpm_pcr.specs.Banks.{Holds}
+use Rattle.tpm_pcr.specs.inner.Banks.{Holds}
 use Rattle.tpm_pcr.proofs.Values.{starting}
 use Rattle.tpm_pcr.proofs.banks.start.Given as goal
 

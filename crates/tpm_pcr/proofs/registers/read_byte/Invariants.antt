@@ -1,5 +1,5 @@
 use Rattle.std.specs.Prelude.{◌≡◌, ◌<◌, ◌^◌, ◌++◌, length, map, take}
-use Rattle.tpm_pcr.specs.Select.{registers_of, chosen, bits_of}
+use Rattle.tpm_pcr.specs.inner.Select.{registers_of, chosen, bits_of}
 use Rattle.tpm_pcr.specs.Banks.{value_at}
 use Rattle.tpm_pcr.proofs.registers.read_byte.Given as goal
 

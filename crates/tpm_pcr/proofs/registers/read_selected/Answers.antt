@@ -1,6 +1,6 @@
 use Rattle.std.proofs.Common.{ℕ, List, ◌∷◌, [], ◌++◌, ◌∙◌, ap, sym, length, map, append_assoc}
 use Rattle.tpm_types.specs.declared.tpms.Selection.{Selection}
-use Rattle.tpm_pcr.specs.Select.{registers_of, chosen, bits_of}
+use Rattle.tpm_pcr.specs.inner.Select.{registers_of, chosen, bits_of}
 use Rattle.tpm_pcr.specs.Banks.{value_at}
 use Rattle.tpm_pcr.proofs.Choice.{count_is}
 use Rattle.tpm_pcr.proofs.Entries.{chosen_is, select_of_first, map_three}

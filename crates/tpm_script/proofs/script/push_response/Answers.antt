@@ -1,7 +1,7 @@
 use Rattle.std.proofs.Common.{ap, sym, ◌∙◌}
 use Rattle.std.proofs.lemmas.List.{append-nil}
 use Rattle.tpm_output.specs.Text.{bytes_line}
-use Rattle.tpm_script.specs.Progress.{StandsAt}
+use Rattle.tpm_script.specs.inner.Progress.{StandsAt}
 use Rattle.tpm_script.proofs.script.push_response.Goals as goal
 
 pub returns : goal.returns

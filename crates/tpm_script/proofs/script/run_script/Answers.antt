@@ -4,7 +4,7 @@ use Rattle.std.specs.Io.KnownBytes.{Appends}
 use Rattle.tpm_output.specs.declared.fault.ToolFault.TheVariants.{InputTooLong, Read}
 use Rattle.tpm_output.specs.LineSinks.{Reading}
 use Rattle.tpm_script.specs.declared.script.Run.{Run}
-use Rattle.tpm_script.specs.Progress.{StandsAt}
+use Rattle.tpm_script.specs.inner.Progress.{StandsAt}
 use Rattle.tpm_script.proofs.Scripts.{answered, no_further, outcome, reads_script, too_much}
 use Rattle.tpm_script.proofs.script.run_script.Goals as goal
 

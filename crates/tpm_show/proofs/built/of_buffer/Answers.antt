@@ -1,7 +1,7 @@
 use Rattle.std.proofs.Common.{refl}
 use Rattle.std.proofs.lemmas.Result.{IfOk-weaker}
 use Rattle.tpm_show.specs.Build.{RefusedFor, Spelled}
-use Rattle.tpm_show.specs.Building.{place_as}
+use Rattle.tpm_show.specs.inner.Building.{place_as}
 use Rattle.tpm_show.proofs.built.of_buffer.Goals as goal
 
 pub returns-in-Ok : goal.returns-in-Ok

@@ -1,7 +1,7 @@
 use Rattle.std.proofs.Common.{◌+◌, ◌-◌}
 use Rattle.std.specs.Io.KnownBytes.{Appends}
 use Rattle.tpm_show.specs.Capture.{most_bytes}
-use Rattle.tpm_show.specs.Capturing.{Streams}
+use Rattle.tpm_show.specs.inner.Capturing.{Streams}
 use Rattle.tpm_show.proofs.Streams.{StreamGoesOn}
 use Rattle.tpm_show.proofs.capture_stream.show_stream.Given as goal
 

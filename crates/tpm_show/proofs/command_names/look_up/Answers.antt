@@ -2,7 +2,8 @@ use Rattle.std.proofs.Common.{rules, ◌≡◌, ℕ, List, map, find, ◌==◌, 
 use Rattle.std.proofs.lemmas.Iterator.Search.{find_from_yields_List}
 use Rattle.std.proofs.lemmas.Iterator.{YieldsList-from_slice}
 use Rattle.tpm_show.specs.declared.command_names.Listed.{Listed}
-use Rattle.tpm_show.specs.CommandNames.{listed_as, listed_in}
+use Rattle.tpm_show.specs.CommandNames.{listed_in}
+use Rattle.tpm_show.specs.inner.CommandNames.{listed_as}
 use Rattle.tpm_output.proofs.Tables.{found_as}
 use Rattle.tpm_show.proofs.command_names.look_up.Goals as goal
 

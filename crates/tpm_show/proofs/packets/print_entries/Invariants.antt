@@ -1,7 +1,7 @@
 use Rattle.std.proofs.Common.{take}
 use Rattle.std.specs.Io.KnownBytes.{Appends}
 use Rattle.tpm_pcap.specs.Entries.{entries_as}
-use Rattle.tpm_show.specs.PacketsTold.{TellsMany}
+use Rattle.tpm_show.specs.inner.PacketsTold.{TellsMany}
 use Rattle.tpm_show.proofs.packets.print_entries.Given as goal
 
 -- those so far are told

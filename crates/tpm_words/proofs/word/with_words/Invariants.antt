@@ -1,7 +1,7 @@
 use Rattle.std.specs.Prelude.{◌≡◌, map, drop}
 use Rattle.clap.specs.Words.{app_of}
 use Rattle.tpm_words.specs.Program.{with_rules, IsLocal}
-use Rattle.tpm_words.specs.Word.{rule_of_word}
+use Rattle.tpm_words.specs.inner.Word.{rule_of_word}
 use Rattle.tpm_words.proofs.word.with_words.Given as goal
 
 -- What is added to the command so far, and what is still to come, is all.

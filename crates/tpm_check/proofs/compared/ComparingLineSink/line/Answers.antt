@@ -2,8 +2,8 @@ use Rattle.std.proofs.Common.{refl}
 use Rattle.std.proofs.lemmas.Result.{IfOk-weaker}
 use Rattle.tpm_output.specs.LineSinks.{some_if}
 use Rattle.tpm_check.specs.Compare.{line_under}
-use Rattle.tpm_check.specs.Comparing.{line_text}
-use Rattle.tpm_check.specs.Told.{told}
+use Rattle.tpm_check.specs.inner.Comparing.{line_text}
+use Rattle.tpm_check.specs.inner.Told.{told}
 use Rattle.tpm_check.proofs.Comparisons.{anywhere, short, takes_kept}
 use Rattle.tpm_check.proofs.compared.ComparingLineSink.line.Goals as goal
 

@@ -1,6 +1,6 @@
 use Rattle.std.proofs.Common.{◌≡◌, ◌+◌, ◌<◌, ◌++◌, List, ℕ, true, false, length, take, drop, get_or, [], ◌∷◌, sym, subst, arith, rules}
 use Rattle.std.proofs.lemmas.List.{append-nil, take_all, take_more, take-append-drop}
-use Rattle.tpm_output.specs.LineReading.{Feeds}
+use Rattle.tpm_output.specs.inner.LineReading.{Feeds}
 use Rattle.tpm_output.proofs.Joins.{joins_texts}
 use Rattle.tpm_output.proofs.LineReading.{feeds_both, feeds_further, feeds_none}
 use Rattle.tpm_output.proofs.input_lines.LineReader.feed.Goals as goal

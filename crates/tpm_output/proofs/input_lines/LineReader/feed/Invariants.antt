@@ -1,6 +1,6 @@
 use Rattle.std.proofs.Common.{ℕ, List, true, take, string_bytes}
 use Rattle.tpm_output.specs.InputLines.{AddedTo}
-use Rattle.tpm_output.specs.LineReading.{Feeds}
+use Rattle.tpm_output.specs.inner.LineReading.{Feeds}
 use Rattle.tpm_output.proofs.input_lines.LineReader.feed.Given as goal
 
 -- the bytes so far are taken

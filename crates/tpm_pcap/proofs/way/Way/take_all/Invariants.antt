@@ -1,6 +1,7 @@
 use Rattle.std.proofs.Common.{◌≡◌, ◌++◌, drop}
 use Rattle.tpm_pcap.specs.Entries.{entries_as}
-use Rattle.tpm_pcap.specs.Ways.{after_bytes, bytes_told, way_as}
+use Rattle.tpm_pcap.specs.Ways.{after_bytes, bytes_told}
+use Rattle.tpm_pcap.specs.inner.Ways.{way_as}
 use Rattle.tpm_pcap.proofs.way.Way.take_all.Given as goal
 
 -- What the bytes from here on make of it is what all make of what was there.

@@ -1,6 +1,6 @@
 use Rattle.std.proofs.Common.{ap, arith}
 use Rattle.tpm_show.specs.Capture.{CapturePlace, told_in}
-use Rattle.tpm_show.specs.Capturing.{place}
+use Rattle.tpm_show.specs.inner.Capturing.{place}
 use Rattle.tpm_show.proofs.Captures.{behind-most, takes_kept}
 use Rattle.tpm_show.proofs.capture.CaptureLineSink.line.Goals as goal
 

@@ -5,7 +5,7 @@ use Rattle.tpm_output.specs.declared.status.Status.{Status}
 use Rattle.tpm_output.specs.Status.{both}
 use Rattle.tpm_show.specs.declared.capture.Capture.{Capture}
 use Rattle.tpm_show.specs.Capture.{CapturePlace}
-use Rattle.tpm_show.specs.Capturing.{place}
+use Rattle.tpm_show.specs.inner.Capturing.{place}
 use Rattle.tpm_show.specs.Packets.{behind_entry, TellsEntry, TellsEntries}
 
 -- what is behind these

@@ -5,7 +5,7 @@ use Rattle.tpm_check.specs.declared.list_lines.Line.{Line}
 use Rattle.tpm_check.specs.declared.stated.Stated.{Stated as RustStated}
 use Rattle.tpm_check.specs.Compare.{Beside, Stated, ListLine, States, Heads, Passes, Wrong, line_under}
 use Rattle.tpm_check.specs.Compare.{is_value, compared_text, not_a_register_text, most_line}
-use Rattle.tpm_check.specs.Told.{told}
+use Rattle.tpm_check.specs.inner.Told.{told}
 use Rattle.tpm_check.specs.declared.list_lines.Line.TheVariants as listed
 use Rattle.tpm_output.specs.declared.status.Status.TheVariants.{Refused}
 use Rattle.tpm_output.specs.declared.status.Status.{Status}

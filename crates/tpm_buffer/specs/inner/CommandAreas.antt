@@ -1,0 +1,26 @@
+-- What the readers of a command's areas hand on.
+use Rattle.std.specs.Prelude.{◌≡◌, ℕ, ◌+◌, ◌<◌, ◌≤◌, List, ◌++◌, length, drop, Result, Ok, Err}
+use Rattle.tpm_wire.specs.declared.refusal.Refusal.{Refusal}
+use Rattle.tpm_wire.specs.ResponseCodes.{rc_authsize}
+use Rattle.tpm_wire.specs.Token.{Here}
+use Rattle.tpm_types.specs.declared.tpms.Auth.{Auth}
+use Rattle.tpm_commands.specs.declared.command.Header.{Header}
+use Rattle.tpm_buffer.specs.Commands.{Checked}
+use Rattle.tpm_buffer.specs.CommandAreas.{Cut, checked, params_here}
+
+abbrev pub areas_view : Cut → Checked × Here
+areas_view c = (checked c, params_here c)
+
+-- the cut at a place, by what was read before it
+abbrev pub cut_of : Header → List ℕ → List Auth → Here → Cut
+cut_of h hs auths here = record { header = h; handles = hs; auths = auths; params = here.rest; params_at = here.at }
+
+-- a place in these bytes, in an area of them
+pub record LiesIn (bytes : List ℕ) (h : Here) : Type 0 where
+  pub rest : drop h.at bytes ≡ h.rest ++ drop (h.at + length h.rest) bytes
+  pub within : h.at + length h.rest ≤ length bytes
+
+-- The authorization area ends at the old place, and what comes after it is next.
+abbrev pub LeavesAuthorization : Here → Here → Here → Result (Unit {0}) Refusal → Type 0
+LeavesAuthorization behind old new (Ok x) = (length old.rest ≡ 0) × (new ≡ behind)
+LeavesAuthorization behind old new (Err e) = (0 < length old.rest) × (e ≡ record { code = rc_authsize; at = old.at })

@@ -1,0 +1,7 @@
+-- Definitions that serve proofs alone: no contract that is handed out names them.
+pub mod Blocks
+pub mod Files
+pub mod Sections
+pub mod Segments
+pub mod Talks
+pub mod Ways

@@ -1,0 +1,3 @@
+-- Definitions that serve proofs alone: no contract that is handed out names them.
+pub mod Banks
+pub mod Select
