@@ -698,3 +698,44 @@ if (PATH=/usr/bin:/bin && command -v rt >/dev/null); then
 else
     holds "$name" without_a_toolchain
 fi
+
+# ---- a build by the toolchain itself, of a program over one crate, beside a crate that it isn't made of
+
+real=$room/real
+mkdir -p "$real/crates/tpmtool/src" "$real/crates/low/src" "$real/crates/aside/src"
+cp tpmtool "$real/tpmtool"
+printf 'low:\naside: low\ntpmtool: low\n' >"$real/crates.txt"
+cat >"$real/crates/low/src/lib.rt" <<'END'
+//! A number.
+#![tactic(auto)]
+
+ghost use Rattle.std.specs.Prelude.{◌≡◌};
+
+/// Three.
+pub fn three() -> u8
+    ensures { result ≡ 3 }
+{
+    3
+}
+END
+cp "$real/crates/low/src/lib.rt" "$real/crates/aside/src/lib.rt"
+cat >"$real/crates/tpmtool/src/main.rt" <<'END'
+//! A program that prints a number.
+#![tactic(auto)]
+
+use low::three;
+use std::io;
+
+fn main(rt: HostRuntime) -> io::Result<()> {
+    let number = three();
+    println!(rt; "{number}")
+}
+END
+
+# built_from_nothing: it is proved and built, with nothing kept of the crate aside, and answers.
+built_from_nothing() {
+    (cd "$real" && ./tpmtool --build && [ "$(./tpmtool)" = 3 ] && [ ! -e crates/aside/out ] &&
+        grep -q '^logic=proved ' crates/tpmtool/out/build.log)
+}
+
+holds_by rt "./tpmtool --build proves and builds a small program by the toolchain itself" built_from_nothing
