@@ -29,7 +29,9 @@ use Rattle.tpm_args.specs.declared.task.Task.{Task}
 use Rattle.tpm_args.specs.declared.stop.Stop.TheVariants.{Help, Usage, Memory}
 use Rattle.tpm_args.specs.declared.stop.Stop.{Stop}
 use Rattle.tpm_words.specs.Program.{program_app}
-use Rattle.tpm_args.specs.Task.{Asks, AsksNothing, AreListed, AsksWith, IsCode, Replies}
+use Rattle.tpm_args.specs.Task.{Asks, AsksNothing, AreListed, AreOptions, AsksWith}
+use Rattle.tpm_args.specs.Stop.{IsHelp, Refuses, StopsFor}
+use Rattle.tpm_args.specs.inner.Stop.{IsMemoryOr}
 use Rattle.tpm_args.specs.inner.Task.{AsksNothingWith}
 
 some : {A : Type 0} (x y : A) → (let a : Option A = Some x in a) ≡ Some y → x ≡ y
