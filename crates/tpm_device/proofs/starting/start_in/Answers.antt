@@ -1,4 +1,4 @@
-use Rattle.std.proofs.Common.{ℕ, List, sym, ap, ◌∙◌}
+use Rattle.std.proofs.Common.{sym, ap, ◌∙◌}
 use Rattle.tpm_wire.specs.Reading.{read_all}
 use Rattle.tpm_types.specs.declared.handle_sets.BindHandle.{BindHandle}
 use Rattle.tpm_types.specs.declared.command_code.CommandCode.TheVariants as codes
