@@ -48,6 +48,38 @@ for list in "$logs"/*.registers; do
     told "${log##*/} beside a list of its registers, as objects" 0 "$log.log" --registers "$list"
 done
 
+# The header of each log, but of those whose fault is within it, whose fault is told.
+while read -r log told; do
+    echo "$told" >"$room/out.wanted"
+    case $told in
+    header*) ran "the header of $log" 0 events "$logs/$log.log" --header ;;
+    *) ran "the header of $log, as an object" 0 events --json "$logs/$log.log" --header ;;
+    esac
+done <"$logs/headers.txt"
+while read -r log kind at; do
+    grep -q "^$log " "$logs/headers.txt" && continue
+    echo "log $kind at $at" >"$room/out.wanted"
+    ran "the header of $log has a fault" 1 events "$logs/$log.log" --header
+    echo "{\"fault\":\"$kind\",\"at\":$at}" >"$room/out.wanted"
+    ran "the header of $log has a fault, as an object" 1 events "$logs/$log.log" --header --json
+done <"$logs/faults.txt"
+
+# The registers of the banks that the header lists.
+for list in "$logs"/*.registers; do
+    log=${list%.registers}
+    sed -n "s/^${log##*/} header .* algorithms\( .*\) vendor_info=.*/\1/p" "$logs/headers.txt" |
+        awk 'NR == FNR { banks = $0; next } index(banks, " " $1 "=")' - "$list" >"$room/listed"
+    cp "$room/listed" "$room/out.wanted"
+    checked "the registers of ${log##*/} in the banks that it lists" 0 "$log.log" --listed
+    awk '{ if (!($1 in of)) names[++count] = $1; of[$1] = of[$1] (of[$1] ? "," : "") "\"" $3 "\"" }
+        END {
+            printf "{\"registers\":{"
+            for (i = 1; i <= count; i++) printf "%s\"%s\":[%s]", (i > 1 ? "," : ""), names[i], of[names[i]]
+            print "}}\n{\"ok\":true}"
+        }' "$room/listed" >"$room/out.wanted"
+    told "the registers of ${log##*/} in the banks that it lists, as an object" 0 "$log.log" --listed
+done
+
 # What tpm2_pcrread prints of swtpm, whose registers the records of the log have extended. Of the banks in
 # one_bank.pcrread only that of SHA-256 has registers.
 log=fewer_and_in_other_order
@@ -131,6 +163,18 @@ if command -v jq >"$room/out" 2>&1; then
 else
     skip "jq reads each object" "jq is not there"
 fi
+# What tpm2_eventlog tells of them.
+if command -v tpm2_eventlog >"$room/out" 2>&1 && python3 -c pass >"$room/out" 2>&1; then
+    for list in "$logs"/*.registers; do
+        log=${list%.registers}.log
+        ./tpmtool events "$log" --json >"$room/objects_of" </dev/null
+        ./tpmtool events "$log" --header --json >"$room/header_of" </dev/null
+        holds "each fact that tpm2_eventlog tells of ${log##*/} is told" \
+            checks/logs/eventlog.py "$log" "$room/objects_of" "$room/header_of" "$list"
+    done
+else
+    skip "each fact that tpm2_eventlog tells" "tpm2_eventlog or python3 is not there"
+fi
 name="lines are printable"
 if LC_ALL=C grep -q '[^ -~]' "$logs/said.listed"; then fail "$name" ""; else pass "$name"; fi
 
@@ -145,6 +189,7 @@ while read -r log kind at; do
     ran "the objects of $log up to its fault" 1 events "$logs/$log.log" --json
     { cat "$room/fault" && echo '{"ok":false}'; } >"$room/out.wanted"
     told "the fault of $log is an object of check" 1 "$logs/$log.log"
+    checked "the fault of $log in place of the banks that it lists" 1 "$logs/$log.log" --listed --json
 done <"$logs/faults.txt"
 
 # Behind the last record are bytes that the firmware left as they were in flash memory: ff, and so no register.

@@ -80,6 +80,9 @@ else
     refuses "a log beside a list of registers and a quote" check checks/logs/worked.log --registers checks/logs/worked.registers --quote $quote
     refuses "the records of a log" events checks/logs/worked.log
     refuses "the records of a log that is none" events checks/logs/cut_by_a_byte.log
+    refuses "the header of a log" events checks/logs/worked.log --header
+    refuses "the header of what is no log" events checks/logs/older_form.log --header --json
+    refuses "the banks that a log lists" check checks/logs/fewer_and_in_other_order.log --listed --json
     refuses "a hash without a name" check --hash sha512 checks/logs/worked.log
     signed='--attest checks/quotes/not-measured.msg --nonce c0ffee0000000000000000000000000000000000'
     refuses "a quote as it was signed with what is required" check checks/logs/worked.log $signed --require sha256:10

@@ -264,6 +264,8 @@ runs_without_output "a closed standard output for a log's fault" - check checks/
 runs_without_output "a closed standard output for a list of registers" - check checks/logs/worked.log --registers checks/logs/worked.registers
 runs_without_output "a closed standard output for a quote" - check checks/logs/worked.log --quote 00
 runs_without_output "a closed standard output for a log's records" - events checks/logs/worked.log
+runs_without_output "a closed standard output for a log's header" - events checks/logs/worked.log --header
+runs_without_output "a closed standard output for the banks that a log lists" - check checks/logs/worked.log --listed
 runs_without_output "a closed standard output for records beside a quote" - events checks/logs/worked.log --attest checks/quotes/not-measured.msg --any-nonce --any-selection
 runs_without_output "a closed standard output for help" - --help
 

@@ -22,9 +22,9 @@ _tpmtool() {
             build,*) words=$commands ;;
             run,-*) words='--owner --greatest --help' ;;
             check,-*) words='--registers --quote --attest --nonce --any-nonce --require --any-selection --signer --hash
-                --allow --secure-boot --any-state --extends --json --help' ;;
+                --allow --secure-boot --any-state --extends --listed --json --help' ;;
             events,-*) words='--register --places --digests --data --attest --nonce --any-nonce --require --any-selection
-                --signer --hash --json --help' ;;
+                --signer --hash --header --json --help' ;;
             check,* | events,*) files=yes ;;
             esac
             ;;

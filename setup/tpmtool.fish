@@ -34,7 +34,9 @@ complete -c tpmtool -n '__fish_seen_subcommand_from check' -l allow -r -F
 complete -c tpmtool -n '__fish_seen_subcommand_from check' -l secure-boot
 complete -c tpmtool -n '__fish_seen_subcommand_from check' -l any-state
 complete -c tpmtool -n '__fish_seen_subcommand_from check' -l extends
+complete -c tpmtool -n '__fish_seen_subcommand_from check' -l listed
 complete -c tpmtool -n '__fish_seen_subcommand_from events' -l register -x
 complete -c tpmtool -n '__fish_seen_subcommand_from events' -l places
 complete -c tpmtool -n '__fish_seen_subcommand_from events' -l digests
 complete -c tpmtool -n '__fish_seen_subcommand_from events' -l data
+complete -c tpmtool -n '__fish_seen_subcommand_from events' -l header

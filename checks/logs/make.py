@@ -574,6 +574,17 @@ def boot_variables():
     return log
 
 
+def characters():
+    """Texts of loaders beyond ASCII: controls and signs that turn the direction, characters of two to four bytes; and
+    bytes that are no UTF-8: overlong, a surrogate, beyond the last character, cut, and with a control."""
+    log = Log([0x000B])
+    for text in ("\u009b2J", "\u202eexe.txt", "\u20ac \u65e5\u672c", "\U0001f512\U0010ffff\ud7ff\ue000", '\\\u00e9"\0'):
+        log.record(8, IPL, text.encode())
+    for wrong in ("c0af", "e080af", "eda080", "f4908080", "6180", "c3", "c3a97f"):
+        log.record(8, IPL, bytes.fromhex(wrong))
+    return log
+
+
 def facts():
     """What a boot tells: a locality, separators, versions, texts of loaders, values of one byte and of none, further
     paths of load options, what old shims have behind an image's path, and authorities."""
@@ -647,6 +658,7 @@ def accepted():
     devices().write("devices")
     boot_variables().write("boot_variables")
     facts().write("facts")
+    characters().write("characters")
 
     # The registers that are quoted of the first have the same values in all.
     attested().write("attested")

@@ -16,7 +16,7 @@ use Rattle.tpm_args.specs.Owner.{IsOwner, bytes_in}
 use Rattle.tpm_names.specs.Selections.{AreSelections, IsRegisterList}
 use Rattle.tpm_names.specs.declared.selection.RegisterList.{RegisterList}
 use Rattle.tpm_args.specs.declared.task.Task.TheVariants.{Show, ShowCapture, ShowPackets, ShowNv, Build, Run, Explain}
-use Rattle.tpm_args.specs.declared.task.Task.TheVariants.{ExplainName, Check, Events}
+use Rattle.tpm_args.specs.declared.task.Task.TheVariants.{ExplainName, Check, CheckListed, Events, EventsHeader}
 use Rattle.tpm_args.specs.declared.task.Task.{Task}
 
 -- the command of the option, where the option is given
@@ -100,11 +100,21 @@ goes_with flag holds = not flag || holds
 abbrev pub has_neither : (Text → Option Text) → Bool
 has_neither value = not (is_some (value (codes "registers"))) && not (is_some (value (codes "quote")))
 
--- None of these is, nor is a quote as it was signed, Secure Boot or JSON asked for.
+-- None of these is, nor is a quote as it was signed or Secure Boot asked for.
+abbrev pub is_uncompared : (Text → Option Text) → Bool
+is_uncompared value =
+    (has_neither value && not (is_some (value (codes "attest")))) && not (is_given (value (codes "secure-boot")))
+
+-- Nor is JSON.
 abbrev pub is_alone : (Text → Option Text) → Bool
-is_alone value =
-    ((has_neither value && not (is_some (value (codes "attest")))) && not (is_given (value (codes "secure-boot"))))
-    && not (is_given (value (codes "json")))
+is_alone value = is_uncompared value && not (is_given (value (codes "json")))
+
+-- No registers, no quote and nothing of a record is asked for.
+abbrev pub is_bare : (Text → Option Text) → Bool
+is_bare value =
+    (((not (is_some (value (codes "register"))) && not (is_some (value (codes "attest"))))
+    && not (is_given (value (codes "places")))) && not (is_given (value (codes "digests"))))
+    && not (is_given (value (codes "data")))
 
 -- Secure Boot is asked for beside neither a list of registers nor the information of a quote, and any state only of it;
 -- any nonce and any selection only of a quote as it was signed, beside no nonce and no list.
@@ -197,8 +207,18 @@ AsksWith name value (ExplainName word) =
     (name ≡ codes "explain") × IsName (is_given (value (codes "decimal"))) (value (codes "CODE")) word.now
 AsksWith name value (Check files options) =
     (name ≡ codes "check") × AreFiles value files × AreOptions value options
+    × (is_given (value (codes "listed")) ≡ false)
+AsksWith name value (CheckListed log json) =
+    (name ≡ codes "check") × ((options : CheckOptions) × AreOptions value options)
+    × (is_given (value (codes "listed")) ≡ true)
+    × ((is_uncompared value && not (is_given (value (codes "extends")))) ≡ true)
+    × (value (codes "LOG") ≡ Some log.now) × (json ≡ is_given (value (codes "json")))
+AsksWith name value (EventsHeader log json) =
+    (name ≡ codes "events") × ((options : CheckOptions) × AreOptions value options)
+    × (is_given (value (codes "header")) ≡ true) × (is_bare value ≡ true)
+    × (value (codes "LOG") ≡ Some log.now) × (json ≡ is_given (value (codes "json")))
 AsksWith name value (Events log registers places digests event-data json attest options) =
-    (name ≡ codes "events") × AreOptions value options
+    (name ≡ codes "events") × AreOptions value options × (is_given (value (codes "header")) ≡ false)
     × (value (codes "attest") ≡ option_map (λ a. a.now) attest)
     × (value (codes "LOG") ≡ Some log.now)
     × AreListed (value (codes "register")) registers × (places ≡ is_given (value (codes "places")))

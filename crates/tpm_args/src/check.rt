@@ -9,7 +9,7 @@ ghost use Rattle.tpm_types.specs.declared.tpms.Selection.{Selection as Selection
 ghost use Rattle.tpm_options.specs.declared.CheckOptions.{CheckOptions as CheckOptionsValue};
 ghost use Rattle.tpm_args.specs.inner.Stop.{IsAsked, IsMemoryOr};
 ghost use Rattle.tpm_args.specs.Task.{AreBytes, AreOptions, DigestsGoTogether, GoTogether, IsHash, IsHashIf};
-ghost use Rattle.tpm_args.specs.Task.{goes_with, has_neither, is_alone};
+ghost use Rattle.tpm_args.specs.Task.{goes_with, has_neither, is_alone, is_uncompared};
 ghost use Rattle.tpm_args.specs.Task.{IsWith, IsWithEither, Requires};
 
 use crate::bytes::bytes_in;
@@ -31,6 +31,19 @@ pub(crate) fn check_task<'a>(alloc: Global, words: &ArgMatches<'a>) -> Asked<'a>
         return Ok(None);
     };
     let options = options(alloc, Subcommand::Check, words)?;
+    if is_given(words, "listed") {
+        let alone = is_without(is_uncompared(words), is_given(words, "extends"));
+        check_flag(
+            alloc,
+            Subcommand::Check,
+            alone,
+            "--listed goes with --json alone",
+        )?;
+        return Ok(Some(Task::CheckListed {
+            log,
+            json: is_given(words, "json"),
+        }));
+    }
     let files = CheckFiles {
         log,
         registers: words.get_str("registers"),
@@ -141,17 +154,23 @@ fn has_neither(words: &ArgMatches<'_>) -> bool
     is_without(!has(words, "registers"), has(words, "quote"))
 }
 
-// Whether that is so, and neither a quote as it was signed is given nor Secure Boot or JSON asked for.
+// Whether that is so, and neither a quote as it was signed is given nor Secure Boot asked for.
+fn is_uncompared(words: &ArgMatches<'_>) -> bool
+    ensures { result ≡ is_uncompared (first_value (found_of words.now)) }
+{
+    let unsigned = is_without(has_neither(words), has(words, "attest"));
+    is_without(unsigned, is_given(words, "secure-boot"))
+}
+
+// Whether that is so, and no JSON is asked for.
 fn is_alone(words: &ArgMatches<'_>) -> bool
     ensures { result ≡ is_alone (first_value (found_of words.now)) }
 {
-    let unsigned = is_without(has_neither(words), has(words, "attest"));
-    let unasked = is_without(unsigned, is_given(words, "secure-boot"));
-    is_without(unasked, is_given(words, "json"))
+    is_without(is_uncompared(words), is_given(words, "json"))
 }
 
-// Whether the option of this name is given.
-fn has(words: &ArgMatches<'_>, name: &str) -> bool
+/// Whether the option of this name is given.
+pub(crate) fn has(words: &ArgMatches<'_>, name: &str) -> bool
     ensures { result ≡ is_some (first_value (found_of words.now) name.now) }
 {
     words.get_str(name).is_some()
@@ -169,8 +188,8 @@ fn is_either(one: bool, other: bool) -> bool
     one || other
 }
 
-// Whether the one holds, and not the other.
-fn is_without(one: bool, other: bool) -> bool
+/// Whether the one holds, and not the other.
+pub(crate) fn is_without(one: bool, other: bool) -> bool
     ensures { result ≡ (one && not other) }
 {
     one && !other
@@ -183,8 +202,13 @@ fn goes_with(flag: bool, holds: bool) -> bool
     !flag || holds
 }
 
-// A usage fault for this reason, where that doesn't hold.
-fn check_flag(alloc: Global, of: Subcommand, holds: bool, reason: &str) -> Result<(), Stop>
+/// A usage fault for this reason, where that doesn't hold.
+pub(crate) fn check_flag(
+    alloc: Global,
+    of: Subcommand,
+    holds: bool,
+    reason: &str,
+) -> Result<(), Stop>
     ensures { MatchResult result (λ _. holds ≡ true) (IsMemoryOr (holds ≡ false)) }
 {
     if holds {

@@ -7,10 +7,10 @@ ghost use Rattle.clap.specs.declared.error.kind.ErrorKind.TheVariants.{InvalidVa
 ghost use Rattle.tpm_words.specs.Program.{program_app};
 ghost use Rattle.tpm_args.specs.Stop.{StopsFor, Refuses};
 ghost use Rattle.tpm_args.specs.inner.Stop.{IsAsked, IsMemoryOr};
-ghost use Rattle.tpm_args.specs.Task.{is_given as is_given_by, Asks, AsksNothing, AsksWith};
+ghost use Rattle.tpm_args.specs.Task.{is_given as is_given_by, is_bare, Asks, AsksNothing, AsksWith};
 ghost use Rattle.tpm_args.specs.inner.Task.{AsksNothingWith};
 
-use crate::check::{check_task, options};
+use crate::check::{check_flag, check_task, has, is_without, options};
 use crate::events::registers;
 use crate::explain::explain_task;
 use crate::invalid::{Subcommand, no_command};
@@ -69,8 +69,9 @@ impl Words {
     ///   the list, the signer, `--any-nonce`, `--any-selection` and `--allow` want `--attest`); any nonce beside a
     ///   nonce, and any selection beside a list; `--secure-boot` or `--allow` beside `--registers` or `--quote`;
     ///   `--any-state` without `--secure-boot`; `--extends` beside any of `--registers`, `--quote`, `--attest`,
-    ///   `--secure-boot` and `--json`.
-    /// - `events`: a list of no registers; and of a quote what is refused of `check`.
+    ///   `--secure-boot` and `--json`; `--listed` beside any of these but `--json`, and beside `--extends`.
+    /// - `events`: a list of no registers; of a quote what is refused of `check`; `--header` beside any other word but
+    ///   `--json`.
     pub fn task(&self, alloc: Global) -> Result<Task<'_>, Stop>
         ensures ok { IfOk result (λ t. Asks (subcommand_of program_app self.now) t) }
         ensures err { IfErr result (λ stop. Refuses self.now stop) }
@@ -149,6 +150,16 @@ fn build_asked<'a>(alloc: Global, words: &ArgMatches<'a>) -> Asked<'a>
     }
 }
 
+// Whether no registers, no quote and nothing of a record is asked for.
+fn is_bare(words: &ArgMatches<'_>) -> bool
+    ensures { result ≡ is_bare (first_value (found_of words.now)) }
+{
+    let unquoted = is_without(!has(words, "register"), has(words, "attest"));
+    let unplaced = is_without(unquoted, is_given(words, "places"));
+    let without_digests = is_without(unplaced, is_given(words, "digests"));
+    is_without(without_digests, is_given(words, "data"))
+}
+
 fn events_task<'a>(alloc: Global, words: &ArgMatches<'a>) -> Asked<'a>
     ensures { IsAsked (codes "events") words.now result }
 {
@@ -157,6 +168,14 @@ fn events_task<'a>(alloc: Global, words: &ArgMatches<'a>) -> Asked<'a>
     };
     let registers = registers(alloc, words.get_str("register"))?;
     let options = options(alloc, Subcommand::Events, words)?;
+    if is_given(words, "header") {
+        let reason = "--header goes with --json alone";
+        check_flag(alloc, Subcommand::Events, is_bare(words), reason)?;
+        return Ok(Some(Task::EventsHeader {
+            log,
+            json: is_given(words, "json"),
+        }));
+    }
     Ok(Some(Task::Events {
         log,
         registers,

@@ -87,6 +87,20 @@ pub enum Task<'a> {
         /// What is asked of them.
         options: CheckOptions<'a>,
     },
+    /// `check LOG --listed [--json]`: print the registers that a log gives in the banks that its header lists.
+    CheckListed {
+        /// The path of the log.
+        log: &'a str,
+        /// Whether they are printed as an object of JSON.
+        json: bool,
+    },
+    /// `events LOG --header [--json]`: print what the header of a log says.
+    EventsHeader {
+        /// The path of the log.
+        log: &'a str,
+        /// Whether it is printed as an object of JSON.
+        json: bool,
+    },
     /// `events LOG [--register LIST] [--places] [--digests] [--data] [--json]`: print the records of a log; or, with
     /// `--attest`, what a quote says as it was signed, and then the records, with what that vouches for.
     Events {

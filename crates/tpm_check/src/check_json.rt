@@ -62,8 +62,13 @@ fn push_bank_member(alloc: Global, text: &mut String, found: &Registers, bank: A
     text.push_str("]")
 }
 
-// Adds the registers of these banks, with a comma between two.
-fn push_bank_members(alloc: Global, text: &mut String, found: &Registers, banks: &[Alg]) -> Pushed
+/// Adds the registers of these banks, with a comma between two.
+pub(crate) fn push_bank_members(
+    alloc: Global,
+    text: &mut String,
+    found: &Registers,
+    banks: &[Alg],
+) -> Pushed
     ensures { OnOk result (string_bytes text.new
         ≡ string_bytes text.old
         ++ commas (map (bank_member (value_in found.now.banks)) banks.now)) }

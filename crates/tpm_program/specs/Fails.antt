@@ -4,7 +4,7 @@ use Rattle.std.specs.Prelude.{Ok, Err}
 use Rattle.std.specs.Borrow.{Bor}
 use Rattle.tpm_output.specs.declared.fault.ToolFault.TheVariants.{Memory, Read, Write, InputTooLong}
 use Rattle.tpm_args.specs.declared.task.Task.TheVariants.{ShowCapture, ShowPackets, ShowNv, Run}
-use Rattle.tpm_args.specs.declared.task.Task.TheVariants.{Check, Events}
+use Rattle.tpm_args.specs.declared.task.Task.TheVariants.{Check, CheckListed, Events, EventsHeader}
 use Rattle.tpm_args.specs.declared.task.Task.{Task}
 use Rattle.tpm_check.specs.Check.{ReadsTooMuchIfList}
 use Rattle.tpm_show.specs.Capture.{ReadsTooMuchCapture}
@@ -29,6 +29,8 @@ files_of (ShowPackets file port fields json) = file.now ∷ []
 files_of (ShowNv file) = file.now ∷ []
 files_of (Check files options) =
     files.log.now ∷ (path_if files.registers ++ (path_if files.attest ++ path_if files.allow))
+files_of (CheckListed log json) = log.now ∷ []
+files_of (EventsHeader log json) = log.now ∷ []
 files_of (Events log registers places digests event-data json attest options) = log.now ∷ path_if attest
 files_of _ = []
 

@@ -21,14 +21,17 @@ use Rattle.tpm_check.specs.Checked.{ChecksLog}
 use Rattle.tpm_check.specs.Kinds.{ExplainsKind, spelled}
 use Rattle.tpm_events.specs.declared.listed_events.Listing.{Listing}
 use Rattle.tpm_events.specs.ListEvents.{ListsEvents, most_read}
+use Rattle.tpm_events.specs.HeaderTold.{TellsHeader}
 use Rattle.tpm_check.specs.AllowedBoot.{ChecksAllowed}
 use Rattle.tpm_check.specs.ExtendsTold.{TellsExtends}
+use Rattle.tpm_check.specs.Listed.{TellsListed}
 use Rattle.tpm_check.specs.QuotedBoot.{ChecksSecureBoot}
 use Rattle.tpm_check.specs.VouchedEvents.{ListsVouched}
 use Rattle.tpm_output.specs.Reads.{ReadsUpTo, most_attest}
 use Rattle.tpm_script.specs.Script.{ReadsScript, script, script_text, status_for}
 use Rattle.tpm_args.specs.declared.task.Task.TheVariants.{Show, ShowCapture, ShowPackets, ShowNv, Build, Run}
-use Rattle.tpm_args.specs.declared.task.Task.TheVariants.{Explain, ExplainName, Check, Events}
+use Rattle.tpm_args.specs.declared.task.Task.TheVariants.{Explain, ExplainName, Check, CheckListed}
+use Rattle.tpm_args.specs.declared.task.Task.TheVariants.{Events, EventsHeader}
 use Rattle.tpm_args.specs.declared.task.Task.{Task}
 use Rattle.tpm_program.specs.Offered.{Offered, OfFile, OfFileIf, OfPlace}
 
@@ -187,6 +190,10 @@ Performs offered (Check files options) status text =
     OfAttest offered files.attest (λ attest.
     OfAllow offered files.allow (λ allow.
     PrintsAsked (record { log = log; list = list; attest = attest; options = options }) allow status text))))
+Performs offered (CheckListed log json) status text =
+    OfFile offered log.now (OfFirst most_read (λ bytes. TellsListed json bytes status text))
+Performs offered (EventsHeader log json) status text =
+    OfFile offered log.now (OfFirst most_read (λ bytes. TellsHeader json bytes status text))
 Performs offered (Events log registers places digests event-data json attest options) status text =
     OfFile offered log.now (λ coming.
     OfAttest offered attest (λ quote.

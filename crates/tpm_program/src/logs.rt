@@ -7,7 +7,7 @@ ghost use Rattle.tpm_output.specs.InputLines.{CountsRead};
 ghost use Rattle.tpm_output.specs.Reads.{most_attest};
 ghost use Rattle.tpm_check.specs.Check.{CountsReads, ReadsTooMuchIfList, failures_of};
 ghost use Rattle.tpm_events.specs.ListEvents.{most_read};
-ghost use Rattle.tpm_args.specs.declared.task.Task.TheVariants.{Check, Events};
+ghost use Rattle.tpm_args.specs.declared.task.Task.TheVariants.{Check, CheckListed, Events, EventsHeader};
 ghost use Rattle.tpm_program.specs.Offered.{OfFile};
 ghost use Rattle.tpm_program.specs.Performs.{OfAllow, OfAttest, OfFirst, Performs, PrintsAsked, PrintsChecked};
 ghost use Rattle.tpm_program.specs.Performs.{PrintsEvents};
@@ -19,9 +19,11 @@ use crate::files::{of_reading, opened, opened_if};
 use crate::inputs::Inputs;
 use std::alloc::Global;
 use std::io::Write;
-use tpm_check::{check_allowed, check_extends, check_log, check_secure_boot, list_vouched};
+use tpm_check::{
+    check_allowed, check_extends, check_listed, check_log, check_secure_boot, list_vouched,
+};
 use tpm_events::listed_events::MOST_READ;
-use tpm_events::{Listing, list_events};
+use tpm_events::{Listing, list_events, print_header};
 use tpm_options::{CheckFiles, CheckOptions};
 use tpm_output::fault::ToolFault;
 use tpm_output::reads::{read_attest, read_up_to};
@@ -76,6 +78,48 @@ pub(crate) fn events<'a, I: Inputs, W: Write>(
     let attest = attest_if(alloc, inputs, attest)?;
     match list_opened(alloc, &mut log, listing, slice_if(&attest), options, out) {
         Ok(status) => Ok(status),
+        Err(fault) => Err(of_reading(inputs, fault, path)),
+    }
+}
+
+/// Prints what the header of a log says.
+pub(crate) fn events_header<'a, I: Inputs, W: Write>(
+    alloc: Global,
+    inputs: &I,
+    out: &mut W,
+    path: &'a str,
+    json: bool,
+) -> Result<Status, Fault<'a>>
+    ensures ok { IfOk result (λ status. (text : List ℕ)
+        × Performs (I.offers inputs.now) (EventsHeader path.entry json) status text
+        × Appends (W.contents out.old) (W.contents out.new) text) }
+    ensures err { IfErr result (λ fault.
+        Fails (I.offers inputs.now) (EventsHeader path.entry json) fault) }
+{
+    let mut log = opened(inputs, path)?;
+    match read_up_to(alloc, &mut log, MOST_READ) {
+        Ok(bytes) => Ok(print_header(alloc, json, bytes.as_slice(), out)?),
+        Err(fault) => Err(of_reading(inputs, fault, path)),
+    }
+}
+
+/// Prints the registers that a log gives in the banks that its header lists.
+pub(crate) fn check_banks<'a, I: Inputs, W: Write>(
+    alloc: Global,
+    inputs: &I,
+    out: &mut W,
+    path: &'a str,
+    json: bool,
+) -> Result<Status, Fault<'a>>
+    ensures ok { IfOk result (λ status. (text : List ℕ)
+        × Performs (I.offers inputs.now) (CheckListed path.entry json) status text
+        × Appends (W.contents out.old) (W.contents out.new) text) }
+    ensures err { IfErr result (λ fault.
+        Fails (I.offers inputs.now) (CheckListed path.entry json) fault) }
+{
+    let mut log = opened(inputs, path)?;
+    match read_up_to(alloc, &mut log, MOST_READ) {
+        Ok(bytes) => Ok(check_listed(alloc, json, bytes.as_slice(), out)?),
         Err(fault) => Err(of_reading(inputs, fault, path)),
     }
 }

@@ -9,7 +9,7 @@ ghost use Rattle.tpm_program.specs.Fails.{Fails};
 
 use crate::fault::Fault;
 use crate::inputs::Inputs;
-use crate::logs::{check, events};
+use crate::logs::{check, check_banks, events, events_header};
 use crate::shows::{run_input, show_capture, show_memory, show_traffic};
 use std::alloc::Global;
 use std::io::Write;
@@ -57,10 +57,10 @@ fn explain_name<W: Write>(alloc: Global, out: &mut W, name: &str) -> Result<Stat
 ///
 /// What is printed is what the subcommand prints: `show` and `show_fields`, `show_lines` and `show_stream`,
 /// `show_packets`, `show_nv`, `build`, `run_script`, `explain` and `explain_kind`, `check_log`, `check_secure_boot`,
-/// `check_allowed` and `check_extends`, and `list_events` and `list_vouched`. The files of a check are opened in this
-/// order: the log, the list of registers, the quote as it was signed, of which at most 4,096 bytes are read before the
-/// log, and the list of allowed digests, of which at most 16,777,217 are; and so are those of events. Of packets at
-/// most 2^30 bytes are read.
+/// `check_allowed`, `check_extends` and `check_listed`, and `list_events`, `list_vouched` and `print_header`. The files
+/// of a check are opened in this order: the log, the list of registers, the quote as it was signed, of which at most
+/// 4,096 bytes are read before the log, and the list of allowed digests, of which at most 16,777,217 are; and so are
+/// those of events. Of packets at most 2^30 bytes are read.
 ///
 /// The remark is what `build` tells of parts that it refuses. Where a file can't be opened or read, the answer is
 /// `File` with its path; else a fault of the subcommand is `Tool`.
@@ -122,6 +122,12 @@ pub fn perform<'a, I: Inputs, W: Write>(
         Task::ExplainName { name } => Ok(silent(alloc, explain_name(alloc, out, name)?)),
         Task::Check { files, options } => {
             Ok(silent(alloc, check(alloc, inputs, out, &files, &options)?))
+        }
+        Task::CheckListed { log, json } => {
+            Ok(silent(alloc, check_banks(alloc, inputs, out, log, json)?))
+        }
+        Task::EventsHeader { log, json } => {
+            Ok(silent(alloc, events_header(alloc, inputs, out, log, json)?))
         }
         Task::Events {
             log,

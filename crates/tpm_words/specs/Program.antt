@@ -49,24 +49,26 @@ explain_app =
     with_rules (new_app (codes "explain")) (flag_rule (codes "decimal") ∷ required_rule (codes "CODE") ∷ [])
 
 -- check LOG [--registers FILE] [--quote HEX] [--attest FILE] [--nonce HEX] [--any-nonce] [--require LIST]
--- [--any-selection] [--signer HEX] [--hash NAME] [--allow FILE] [--secure-boot] [--any-state] [--extends] [--json]
+-- [--any-selection] [--signer HEX] [--hash NAME] [--allow FILE] [--secure-boot] [--any-state] [--extends] [--listed]
+-- [--json]
 abbrev pub check_app : App
 check_app = with_rules (new_app (codes "check"))
     (required_rule (codes "LOG") ∷ option_rule (codes "registers") ∷ option_rule (codes "quote")
     ∷ option_rule (codes "attest") ∷ option_rule (codes "nonce") ∷ flag_rule (codes "any-nonce")
     ∷ option_rule (codes "require") ∷ flag_rule (codes "any-selection") ∷ option_rule (codes "signer")
     ∷ option_rule (codes "hash") ∷ option_rule (codes "allow") ∷ flag_rule (codes "secure-boot")
-    ∷ flag_rule (codes "any-state") ∷ flag_rule (codes "extends") ∷ flag_rule (codes "json") ∷ [])
+    ∷ flag_rule (codes "any-state") ∷ flag_rule (codes "extends") ∷ flag_rule (codes "listed")
+    ∷ flag_rule (codes "json") ∷ [])
 
 -- events LOG [--register LIST] [--places] [--digests] [--data] [--attest FILE] [--nonce HEX] [--any-nonce]
--- [--require LIST] [--any-selection] [--signer HEX] [--hash NAME] [--json]
+-- [--require LIST] [--any-selection] [--signer HEX] [--hash NAME] [--header] [--json]
 abbrev pub events_app : App
 events_app = with_rules (new_app (codes "events"))
     (required_rule (codes "LOG") ∷ option_rule (codes "register") ∷ flag_rule (codes "places")
     ∷ flag_rule (codes "digests") ∷ flag_rule (codes "data") ∷ option_rule (codes "attest")
     ∷ option_rule (codes "nonce") ∷ flag_rule (codes "any-nonce") ∷ option_rule (codes "require")
     ∷ flag_rule (codes "any-selection") ∷ option_rule (codes "signer") ∷ option_rule (codes "hash")
-    ∷ flag_rule (codes "json") ∷ [])
+    ∷ flag_rule (codes "header") ∷ flag_rule (codes "json") ∷ [])
 
 -- one of the subcommands, or a version
 abbrev pub above_subcommands : App

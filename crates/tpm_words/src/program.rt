@@ -214,7 +214,7 @@ pub fn check_words<'a>(alloc: Global) -> Result<Command<'a>, AllocError>
     )
 }
 
-const CHECK: [Word<'static>; 15] = [
+const CHECK: [Word<'static>; 16] = [
     LOG,
     Word::Option(
         "registers",
@@ -255,6 +255,10 @@ const CHECK: [Word<'static>; 15] = [
         "Prints the digests by which the log extends registers, as a list for --allow",
     ),
     Word::Flag(
+        "listed",
+        "Prints the registers of those banks alone that the log's header lists",
+    ),
+    Word::Flag(
         "json",
         "Prints objects of JSON in place of text, each in a line",
     ),
@@ -272,7 +276,7 @@ pub fn events_words<'a>(alloc: Global) -> Result<Command<'a>, AllocError>
     )
 }
 
-const EVENTS: [Word<'static>; 13] = [
+const EVENTS: [Word<'static>; 14] = [
     LOG,
     Word::Option(
         "register",
@@ -296,6 +300,10 @@ const EVENTS: [Word<'static>; 13] = [
     ANY_SELECTION,
     SIGNER,
     HASH,
+    Word::Flag(
+        "header",
+        "Prints what the log's header says, in place of records",
+    ),
     Word::Flag(
         "json",
         "Prints each record as an object of JSON, with all that it holds",
