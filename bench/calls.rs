@@ -2,7 +2,7 @@
 use std::hint::black_box;
 use std::time::{Duration, Instant};
 
-use vinjakwe::{check, check_version, Bank, Command, Nonce, Required, Verdict};
+use vinjakwe::{check, check_version, Bank, Command, Expected, Nonce, Required, Verdict};
 
 const ROUNDS: usize = 5;
 const ROUND: Duration = Duration::from_millis(200);
@@ -46,7 +46,7 @@ fn main() {
         assert_eq!(command.sessions.len(), 1);
     });
     print_rate("check", &|| {
-        let (nonce, required) = (Nonce::Is(&nonce), Required::Registers(&required));
-        assert_eq!(check(black_box(&log), &quote, nonce, required, Bank::Sha256), Ok(Verdict::Matches));
+        let expected = Expected::new(Nonce::Is(&nonce), Required::Registers(&required), Bank::Sha256);
+        assert_eq!(check(black_box(&log), &quote, &expected), Ok(Verdict::Matches));
     });
 }

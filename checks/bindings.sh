@@ -8,7 +8,8 @@
 #     texts FILE                                          as examples/events.c, which checks/c.sh compares
 #     boot FILE BANK                                      as examples/secure_boot.c, which checks/c.sh compares
 #     quote FILE HEX HASH                                 as examples/log.c
-#     attest LOG HEX NONCE REQUIRE HASH                   a quote as it was signed; `any` nonce, or `any` registers
+#     attest LOG HEX NONCE REQUIRE HASH [LIST]            a quote as it was signed; `any` nonce, or `any` registers;
+#                                                         beside a list of allowed digests
 #     frames SIZE HEX                                     a stream in pieces of so many bytes
 #     device OWNER, execute HEX, power                    a script, by its nonces, of a new device
 #     start, seal, open, give-up                          what a new caller does beside it: checks/callers.txt
@@ -90,6 +91,30 @@ ask_quotes() {
     done <checks/quotes/cases.txt
 }
 
+# ask_lists: of each log that has a list of lines a quote of what it extends, beside the list of its own digests, one in
+# which the first of SHA-256 is another, and one with a register more, as checks/logs/allowed.py has them.
+ask_lists() {
+    mkdir "$room/lists"
+    for events in checks/logs/*.events; do
+        log=${events%.events}
+        list=$room/lists/${log##*/}
+        python3 checks/logs/allowed.py lists "$events" >"$list"
+        grep -q '^sha256' "$list" || continue
+        named=$(python3 checks/logs/allowed.py registers "$list")
+        bytes=$(python3 checks/quotes/made.py "$log.registers" 6e6f "$named" | xxd -p | tr -d '\n')
+        { echo "# others" && awk '{ of = $1 " " $2 } of in first { next } { first[of] = $3 }
+            $1 == "sha256" { print of, "00" substr($3, 3) " words # and a comment" }' "$list"; } >"$list.others"
+        { cat "$list" && echo "sha384 13 $(zeros 48)"; } >"$list.more"
+        for asked in "$list" "$list.others" "$list.more"; do
+            echo "attest $log.log $bytes 6e6f any sha256 $asked" >>"$table"
+        done
+        echo matches >>"$table.wanted"
+        python3 checks/logs/allowed.py told "$events" "$list.others" | sort -s -n -k 5,5 | head -n 1 |
+            cut -d ' ' -f 1-5 >>"$table.wanted"
+        echo "lacks sha384 13" >>"$table.wanted"
+    done
+}
+
 # make_table: the questions, and their answers by C and by tpmtool.
 make_table() {
     : >"$room/asked"
@@ -163,6 +188,7 @@ ROWS
     { cut -f 1 "$room/codes" && echo 1084; } | sed 's/^/code /' >>"$table"
     { cut -f 2 "$room/codes" && echo 0x1084; } >>"$table.wanted"
     ! [ -d checks/quotes ] || ask_quotes
+    ! command -v python3 >/dev/null 2>&1 || ask_lists
 }
 
 # make_changed: a hundred thousand commands and replies of the table, each with a digit changed, some cut.
@@ -206,7 +232,7 @@ make_layout() {
         function number(name, value) { printf "printf(\"%s %%lu\\n\", (unsigned long)%s);\n", name, value }
         BEGIN { print "#include \"vinjakwe.h\"\n#include <stdio.h>\nint main(void) {" }
         /^struct tpm_[a-z_]* \{/ &&
-            ($2 ~ /refusal|part|session|areas|attest|signature|policy|counter|secure_boot|variable/ ||
+            ($2 ~ /refusal|part|session|areas|attest|signature|allowed|policy|counter|secure_boot|variable/ ||
                 $2 ~ /log_(place|digest|event)/) {
             name = $2
             size(name)
@@ -220,7 +246,7 @@ make_layout() {
         }
         /^#define TPM_(CC|RC)_/ &&
             $2 !~ /^TPM_RC_([HPS1-7])$/ { number($2, $2) }
-        /^#define TPM_(DONE|REFUSED|NO_ROOM|NO_COMMAND|EVENT|VARIABLE|TEXT|TEXT_UTF16|CALLER_OPENED) / ||
+        /^#define TPM_(DONE|REFUSED|NO_ROOM|NO_COMMAND|EVENT|VARIABLE|TEXT|TEXT_UTF16|NOT_ALLOWED|CALLER_OPENED) / ||
             /^#define TPM_POLICY_NO_DIGEST / ||
             /^#define TPM_(FRAMER_[A-Z]+|ATTEST_[A-Z_]+|MEASURED_[A-Z]+) / ||
             /^#define TPM_ALG_(SHA|RSA|ECDSA)/ ||
@@ -248,8 +274,8 @@ for it, name in (
     (v._CommandAreas, "command_areas"), (v._ResponseSession, "response_session"), (v._ResponseAreas, "response_areas"),
     (v._LogPlace, "log_place"), (v._LogDigest, "log_digest"), (v._LogEvent, "log_event"), (v._Attest, "attest"),
     (v._Signature, "signature"),
-    (v._AttestFault, "attest_fault"), (v._Policy, "policy"), (v._Counter, "counter"), (v._SecureBoot, "secure_boot"),
-    (v._Variable, "variable"),
+    (v._AttestFault, "attest_fault"), (v._AllowedDigest, "allowed"), (v._Policy, "policy"), (v._Counter, "counter"),
+    (v._SecureBoot, "secure_boot"), (v._Variable, "variable"),
 ):
     print(f"tpm_{name} {ctypes.sizeof(it)}")
     for field, _ in it._fields_:
@@ -263,7 +289,7 @@ for name in ("BUFFER_BYTES", "OWNER_BYTES", "NONCE_BYTES", "REGISTERS_BYTES", "D
              "EVENT_TYPE_BYTES", "CODE_NAME_BYTES", "LOG_NAME_BYTES", "SELECTION_BYTES"):
     print(f"TPM_{name} {getattr(v, name)}")
 for name in ("DONE", "REFUSED", "NO_ROOM", "NO_COMMAND", "FRAMER_MORE", "FRAMER_READY", "FRAMER_BROKEN", "EVENT",
-             "VARIABLE", "TEXT", "TEXT_UTF16", "CALLER_OPENED", "ATTEST_REFUSED", "ATTEST_NO_BANK",
+             "VARIABLE", "TEXT", "TEXT_UTF16", "NOT_ALLOWED", "CALLER_OPENED", "ATTEST_REFUSED", "ATTEST_NO_BANK",
              "ATTEST_REQUIREMENT", "POLICY_NO_DIGEST"):
     print(f"TPM_{name} {getattr(v, '_' + name)}")
 for kind in v.Kind:
@@ -460,6 +486,11 @@ END
         [ "$(env -u LD_LIBRARY_PATH "$room/rust/debug/example" $one_quote)" = "$verdict" ]
 }
 
+# are_short: the verifiers have as many lines as their readers were promised.
+are_short() {
+    [ "$(wc -l <bindings/python/examples/verify.py)" -le 40 ] && [ "$(wc -l <bindings/go/examples/verify/main.go)" -le 60 ]
+}
+
 # make_signed: quotes with their signatures as TPMT_SIGNATURE and what is said of them, in $room/signed: those of
 # checks/quotes, and one of a made log by a key for each scheme.
 make_signed() {
@@ -561,6 +592,7 @@ elif ! "$compiler" -O2 -Iinclude -o "$room/c_view" examples/view.c "$prefix/lib/
     ! make_table || ! make_changed || ! make_layout; then
     fail "the bindings" "the table was not made"
 else
+    holds "a verifier has at most 40 lines in Python and 60 in Go" are_short
     if ! command -v python3 >/dev/null 2>&1; then
         skip "the binding for Python" "there is no python3"
     else

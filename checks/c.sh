@@ -272,6 +272,23 @@ same_vouched() {
     done <checks/quotes/cases.txt
 }
 
+# same_allowed: the digests of each log that has a list of lines beside themselves, and beside a list in which the first
+# of each register is another, and the others have another register, too: what checks/logs/allowed.py says of them.
+same_allowed() {
+    for events in checks/logs/*.events; do
+        python3 checks/logs/allowed.py lists "$events" >"$room/list"
+        [ -s "$room/list" ] || continue
+        awk '{ of = $1 " " $2 } !(of in first) { first[of] = $3; print of, "00" substr($3, 3), "other"; next }
+            { print $1, $2 == 0 ? 1 : 0, $3; print; print "# none" }' "$room/list" >"$room/others"
+        for list in list others; do
+            python3 checks/logs/allowed.py told "$events" "$room/$list" >"$room/out.wanted"
+            if grep -q '^unknown' "$room/out.wanted"; then wanted=1; else wanted=0; fi
+            "$room/attest" --allowed "${events%.events}.log" "$room/$list" >"$room/out"
+            [ $? -eq "$wanted" ] && cmp "$room/out" "$room/out.wanted" || { echo "$events, $list" && return 1; }
+        done
+    done
+}
+
 # same_signatures: a signature's parts, by an RSA key that of checks/quotes, and what is refused.
 same_signatures() {
     { echo 001400040100 | as_bytes && cat checks/quotes/rsa-sha1.sig; } >"$room/signature"
@@ -422,7 +439,7 @@ same_attests() {
     # No register, and the digest of no bytes.
     { head -c 89 checks/quotes/ecc-sha256.msg && echo 00000001000b030000000020e3b0c44298fc1c149afbf4c8996fb92427ae41e4649b934ca495991b7852b855 | as_bytes; } >"$room/quoted"
     log=17-ovmf-secureboot.log hash=sha256 sent=c0ffee0000000000000000000000000000000000
-    (wanted=- && attests "no register" selection is empty) || return 1
+    (wanted=- && attests "no register" selects nothing) || return 1
     (wanted=sha256:0 && attests "no register, one required" selection lacks sha256 0)
 }
 
@@ -667,6 +684,11 @@ else
     holds "quotes as they were signed, beside their logs through C" same_attests
     holds "quotes that are changed at random through C" changed_quotes
     holds "what quotes vouch for through C" same_vouched
+    if command -v python3 >/dev/null 2>&1; then
+        holds "a list of digests beside the logs through C" same_allowed
+    else
+        skip "a list of digests beside the logs through C" "there is no python3"
+    fi
     holds "signatures by their parts through C" same_signatures
     holds "the digest of a policy through C" same_policies
     holds "a session is held through C" same_session

@@ -94,6 +94,7 @@ def crate_numbers():
         | constants("tpm_c", "policy", "TPM_POLICY_")
         | only(constants("tpm_c", "log_event", "TPM_"), "TPM_EVENT")
         | only(constants("tpm_c", "record_text", "TPM_"), "TPM_TEXT", "TPM_TEXT_UTF16")
+        | only(constants("tpm_c", "allowed", "TPM_"), "TPM_ALLOWED", "TPM_NOT_ALLOWED")
         | only(constants("tpm_c", "variable", "TPM_"), "TPM_VARIABLE")
         | arms("tpm_c", "measured", "MeasuredPart", "TPM_MEASURED_")
         | constants("tpm_c", "signature", "TPM_ALG_", "u16")
@@ -109,7 +110,7 @@ def crate_numbers():
             "TPM_OWNER_BYTES": digest,
             "TPM_NONCE_BYTES": nonce,
             "TPM_CODE_NAME_BYTES": code_name_bytes(),
-            "TPM_LOG_NAME_BYTES": max(map(len, re.findall(r'[0-9]+ "(\w+)"', source("tpm_c", "answer_name")))),
+            "TPM_LOG_NAME_BYTES": max(map(len, re.findall(r'[0-9]+ "([\w ]+)"', source("tpm_c", "answer_name")))),
             # a count, and of each bank its hash, a size and the bits of its registers
             "TPM_SELECTION_BYTES": 4 + limits["BANKS"] * (2 + 1 + constants("tpm_types", "tpms")["SELECT_BYTES"]),
             "TPM_POLICY_BYTES": array_len("tpm_c", "policy", "u8"),
@@ -170,7 +171,7 @@ def c_type(kind, name):
     if found := re.fullmatch(r"\[(\w+); ([0-9]+)\]", kind):
         return [f"{c_type(found[1], name)[0]}[{found[2]}]"]
     if found := re.fullmatch(r"&(mut )?\[(\w+)(; [0-9]+)?\]", kind):
-        pointer = f"{'' if found[1] else 'const '}{NUMBERS[found[2]]} *{name}"
+        pointer = f"{'' if found[1] else 'const '}{c_type(found[2], f'*{name}')[0]}"
         return [pointer] if found[3] else [pointer, f"size_t {name}_len"]
     if found := re.fullmatch(r"&(mut )?(\w+)", kind):
         return [f"{'' if found[1] else 'const '}{c_type(found[2], '*' + name)[0]}"]

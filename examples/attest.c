@@ -3,12 +3,15 @@
  *
  *     attest LOG QUOTE sha1|sha256|sha384 NONCE_HEX REQUIRED
  *     attest --vouched LOG QUOTE
+ *     attest --allowed LOG LIST
  *     attest --changed COUNT LOG QUOTE sha1|sha256|sha384 NONCE_HEX REQUIRED
  *     attest --signature FILE
  *
  * REQUIRED is as tpm2-tools write selections, like sha256:0,1,2+sha1:7 or sha256:all, and - where nothing is required.
  * The status is 0 where the quote is the one that was asked for. With --vouched each record of the log has a line of
  * its register and of each bank in which the quote vouches for a part of it; what was asked for is not looked at then.
+ * With --allowed it is told of each register that a list of digests names whether all are on it by which the log
+ * extends it, as by `tpmtool check --allow`; what the quote selects is not looked at then, and has to be these.
  * With --changed the quote is changed at random so often, and what is answered of it is looked at: each part that is
  * told lies in its bytes, and a changed quote is refused or has another verdict or other parts. With --signature the
  * parts of a signature are told, as `tpm2_quote -s` writes it. */
@@ -32,7 +35,8 @@ static void print_name(uint32_t answer) {
 static const struct bank {
     const char *name;
     uint16_t hash;
-} banks[] = {{"sha1", TPM_ALG_SHA1}, {"sha256", TPM_ALG_SHA256}, {"sha384", TPM_ALG_SHA384}};
+    size_t size;
+} banks[] = {{"sha1", TPM_ALG_SHA1, 20}, {"sha256", TPM_ALG_SHA256, 32}, {"sha384", TPM_ALG_SHA384, 48}};
 
 static void usage(void) {
     fprintf(stderr, "attest: LOG QUOTE sha1|sha256|sha384 NONCE_HEX REQUIRED\n");
@@ -113,23 +117,21 @@ static void print_view(const struct tpm_attest *view) {
 }
 
 static void print_verdict(uint32_t said, const struct tpm_attest_fault *fault) {
+    if (said > TPM_LOG_DONE && said < TPM_ATTEST_DIFFERS)
+        printf("log ");
+    print_name(said);
     switch (said) {
     case TPM_ATTEST_MATCHES: printf("matches\n"); break;
-    case TPM_ATTEST_DIFFERS: printf("digest differs\n"); break;
+    case TPM_ATTEST_DIFFERS:
+    case TPM_ATTEST_NO_BANK:
+    case TPM_ATTEST_NONCE:
+    case TPM_ATTEST_EMPTY: printf("\n"); break;
     case TPM_ATTEST_REFUSED:
-        printf("quote refused %04lx at %lu\n", (unsigned long)fault->code, (unsigned long)fault->at);
-        break;
-    case TPM_ATTEST_NO_BANK: printf("no bank\n"); break;
-    case TPM_ATTEST_NONCE: printf("nonce differs\n"); break;
-    case TPM_ATTEST_LACKS: printf("selection lacks %s %lu\n", bank_name(fault->hash), (unsigned long)fault->pcr); break;
-    case TPM_ATTEST_EMPTY: printf("selection is empty\n"); break;
     case TPM_ATTEST_REQUIREMENT:
-        printf("requirement refused %04lx at %lu\n", (unsigned long)fault->code, (unsigned long)fault->at);
+        printf(" %04lx at %lu\n", (unsigned long)fault->code, (unsigned long)fault->at);
         break;
-    default:
-        printf("log ");
-        print_name(said);
-        printf(" at %lu\n", (unsigned long)fault->at);
+    case TPM_ATTEST_LACKS: printf(" %s %lu\n", bank_name(fault->hash), (unsigned long)fault->pcr); break;
+    default: printf(" at %lu\n", (unsigned long)fault->at);
     }
 }
 
@@ -178,6 +180,81 @@ static int show_vouched(void) {
         printf("\n");
     }
     return 0;
+}
+
+/* ---- a list of digests */
+
+static struct tpm_allowed list[1 << 12];
+static size_t list_len;
+
+/* Reads lines as `sha256 4 DIGEST`, behind which stand any words; # begins a comment. */
+static void read_list(const char *path) {
+    char line[256], name[8], digest[97];
+    unsigned pcr;
+    FILE *file = fopen(path, "r");
+    while (file != NULL && fgets(line, sizeof line, file) != NULL) {
+        const struct bank *bank;
+        struct tpm_allowed *entry = list + list_len;
+        int words;
+        line[strcspn(line, "#")] = 0;
+        words = sscanf(line, "%7s %u %96s", name, &pcr, digest);
+        if (words <= 0)
+            continue;
+        bank = bank_named(name, strlen(name));
+        if (words != 3 || bank == NULL || pcr > 23 || list_len == sizeof list / sizeof *list)
+            usage();
+        entry->pcr = pcr;
+        entry->hash = bank->hash;
+        if (read_hex(digest, entry->digest, sizeof entry->digest) != bank->size)
+            usage();
+        list_len++;
+    }
+    if (file == NULL)
+        usage();
+    fclose(file);
+}
+
+static void print_unknown(const struct tpm_log_event *event, const struct tpm_log_digest *it) {
+    uint8_t name[TPM_EVENT_TYPE_BYTES];
+    size_t len = tpm_event_type_name(event->type, name, sizeof name);
+    printf("unknown %s %lu at %lu ", bank_name(it->hash), (unsigned long)event->pcr, (unsigned long)event->at);
+    for (size_t i = 0; i < it->digest.len; i++)
+        printf("%02x", log_bytes[it->digest.at + i]);
+    if (len == 0)
+        printf(" %08lx\n", (unsigned long)event->type);
+    else
+        printf(" %.*s\n", (int)len, (const char *)name);
+}
+
+/* Each digest by which the log extends this register of the bank and that isn't on the list, or that there is none. */
+static int show_unknown(const struct bank *bank, uint32_t pcr) {
+    struct tpm_log_place place = {0, 0};
+    struct tpm_log_event event;
+    int wrong = 0;
+    uint32_t at, said;
+    while ((said = tpm_log_event(log_bytes, log_len, &place, &event, &at)) == TPM_EVENT)
+        for (size_t i = 0; i < event.digest_count; i++) {
+            const struct tpm_log_digest *it = event.digests + i;
+            if (event.pcr == pcr && it->hash == bank->hash &&
+                tpm_log_allowed(list, list_len, pcr, event.type, it->hash, log_bytes + it->digest.at,
+                                it->digest.len) == TPM_NOT_ALLOWED) {
+                print_unknown(&event, it);
+                wrong = 1;
+            }
+        }
+    if (!wrong && said == TPM_LOG_DONE)
+        printf("allowed %s %lu\n", bank->name, (unsigned long)pcr);
+    return wrong || said != TPM_LOG_DONE;
+}
+
+/* The same of each register that the list names: no bytes are no digest of any bank, so that they are never on it. */
+static int show_allowed(void) {
+    int wrong = 0;
+    for (const struct bank *bank = banks; bank != banks + 3; bank++)
+        for (uint32_t pcr = 0; pcr < 24; pcr++)
+            if (tpm_log_allowed(list, list_len, pcr, 0, bank->hash, log_bytes, 0) == TPM_NOT_ALLOWED)
+                wrong |= show_unknown(bank, pcr);
+    return wrong;
 }
 
 /* ---- changed quotes */
@@ -264,6 +341,11 @@ int main(int argc, char **argv) {
         log_len = read_file(argv[2], log_bytes, sizeof log_bytes);
         quote_len = read_file(argv[3], quote, sizeof quote);
         return show_vouched();
+    }
+    if (argc == 4 && strcmp(argv[1], "--allowed") == 0) {
+        log_len = read_file(argv[2], log_bytes, sizeof log_bytes);
+        read_list(argv[3]);
+        return show_allowed();
     }
     if (argc != 6)
         usage();

@@ -288,9 +288,10 @@ struct tpm_log_digest {
 /* How many digests a record has at most. */
 #define TPM_RECORD_DIGESTS 8
 
-/* A record of a log, TCG_PCR_EVENT2: its register; its type, 3 for EV_NO_ACTION, which extends nothing; its digests, in their order;
+/* A record of a log, TCG_PCR_EVENT2: how many bytes of the log precede it; its register; its type, 3 for EV_NO_ACTION, which extends nothing; its digests, in their order;
  * and the event's data. Of the digests as many are there as are counted, and the others are 0. */
 struct tpm_log_event {
+    uint32_t at;
     uint32_t pcr;
     uint32_t type;
     size_t digest_count;
@@ -359,6 +360,27 @@ uint32_t tpm_log_variable(uint32_t kind, const uint8_t *bytes, size_t len, struc
  * TPM_ALG_SHA256 or TPM_ALG_SHA384): the first of TPM_MEASURED_DATA to TPM_MEASURED_OTHER that fits; or TPM_QUOTE_NO_BANK. */
 uint32_t tpm_log_measured(uint32_t kind, const uint8_t *bytes, size_t len, uint16_t hash, const uint8_t *digest, size_t digest_len);
 
+/* A digest by which a register may be extended, as in a boot that is trusted: its register; TPM_ALG of its hash; and its bytes, of which
+ * as many count as the digests of the hash have. One of a hash without a bank says nothing. */
+struct tpm_allowed {
+    uint32_t pcr;
+    uint16_t hash;
+    uint8_t digest[48];
+};
+
+/* What is said of a digest beside a list: it is on it, or it isn't, and the list names its register in its bank. */
+#define TPM_ALLOWED ((uint32_t)41)
+#define TPM_NOT_ALLOWED ((uint32_t)42)
+
+/* Tells whether a list allows the digest by which a record of this register and type extends it, in the bank of this hash (TPM_ALG_SHA1,
+ * TPM_ALG_SHA256 or TPM_ALG_SHA384): TPM_ALLOWED, TPM_NOT_ALLOWED, or TPM_LOG_DONE where the list doesn't name the register, or the type
+ * is EV_NO_ACTION, which extends nothing; or TPM_QUOTE_NO_BANK. Each call goes through the list.
+ *
+ * Where TPM_NOT_ALLOWED is answered of no digest of no record of a log, and a quote that selects each register of the list matches the log
+ * (tpm_log_check_attest), each log that it vouches for has digests of the list alone in these registers. */
+uint32_t tpm_log_allowed(const struct tpm_allowed *list, size_t len, uint32_t pcr, uint32_t kind, uint16_t hash, const uint8_t *digest,
+                         size_t digest_len);
+
 /* What a log tells of Secure Boot besides its state: 1 where DMA protection was disabled, else 0; and how many bytes of the log
  * precede the records of PK, KEK, db and dbx, or 0 where one was not measured. tpm_log_event tells the record at such a place, where
  * `late` is 0. */
@@ -405,12 +427,13 @@ uint32_t tpm_log_secure_boot(const uint8_t *log, size_t len, uint16_t hash, stru
                              size_t authorities_len, size_t *count, uint32_t *at);
 
 /* How many bytes the name of an answer has at most. */
-#define TPM_LOG_NAME_BYTES 18
+#define TPM_LOG_NAME_BYTES 19
 
-/* Writes the name of what a call on a log answered to the beginning of `out`, with no zero behind it, and says how many bytes it has:
- * TPM_LOG_NAME_BYTES at most. It is `Truncated` of TPM_LOG_TRUNCATED, `on` of TPM_SECURE_BOOT_ON, `NotMeasured` of
- * TPM_SECURE_BOOT_NOT_MEASURED, and so on, as `tpmtool check` prints them. It answers 0, and nothing is written, where out_len is
- * less, or of an answer that is no fault of a log, no state of Secure Boot and no reason why none is told. */
+/* Writes the name of what a call on a log or a quote answered to the beginning of `out`, with no zero behind it, and says how many bytes
+ * it has: TPM_LOG_NAME_BYTES at most. It is `Truncated` of TPM_LOG_TRUNCATED, `on` of TPM_SECURE_BOOT_ON, `NotMeasured` of
+ * TPM_SECURE_BOOT_NOT_MEASURED, and so on, as `tpmtool check` prints them; and of TPM_ATTEST_DIFFERS to TPM_ATTEST_REQUIREMENT `digest
+ * differs`, `quote refused`, `no bank`, `nonce differs`, `selection lacks`, `selects nothing` and `requirement refused`. It answers 0, and
+ * nothing is written, where out_len is less, or of any other answer. */
 size_t tpm_log_answer_name(uint32_t answer, uint8_t *out, size_t out_len);
 
 /* A replay of a log that comes in pieces, however it is cut. */

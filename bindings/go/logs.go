@@ -24,7 +24,7 @@ type LogFault struct {
 
 func (f *LogFault) Error() string { return fmt.Sprintf("log %s at %d", f.Kind, f.At) }
 
-// answerName is the name of what a call on a log answered, as "Truncated" or "NotMeasured".
+// answerName is the name of what a call on a log or a quote answered, as "Truncated" or "nonce differs".
 func answerName(answer C.uint32_t) string {
 	var name [C.TPM_LOG_NAME_BYTES]byte
 	return string(name[:C.tpm_log_answer_name(answer, place(name[:]), size(name[:]))])
@@ -225,6 +225,28 @@ func (e Event) Vouched(attest *Attest) map[Hash]Part {
 	return found
 }
 
+// VouchedText is the Text where a quote vouches for it in this bank: where all the data were measured, or what stands
+// behind a prefix that GRUB writes, which is there in the text.
+func (e Event) VouchedText(attest *Attest, hash Hash) (text string, is bool) {
+	if part, isVouched := e.Vouched(attest)[hash]; isVouched && (part == AllData || part == BehindPrefix) {
+		return e.Text()
+	}
+	return "", false
+}
+
+// VouchedVariable is the Variable where a quote vouches for its name and its value in this bank: where all the data
+// were measured, or all but a last byte that is not the variable's.
+func (e Event) VouchedVariable(attest *Attest, hash Hash) (found Variable, is bool) {
+	switch part, isVouched := e.Vouched(attest)[hash]; {
+	case isVouched && part == WithoutLast:
+		e.Data = e.Data[:len(e.Data)-1]
+		return e.Variable()
+	case isVouched && part == AllData:
+		return e.Variable()
+	}
+	return found, false
+}
+
 // A Variable of the firmware: its vendor's GUID as it lies in memory, its name, in which a unit that is no UTF-16 is
 // U+FFFD, and its value, which is lent from the event's data.
 type Variable struct {
@@ -268,16 +290,14 @@ func (e *Events) Next() bool {
 		return false
 	}
 	e.place = from
-	// Before the data are three numbers and their size, and the digests, each behind its hash (TCG_PCR_EVENT2).
 	e.event = Event{
 		Number:   e.event.Number + 1,
-		At:       uint32(it.data.at) - 16,
+		At:       uint32(it.at),
 		Register: uint32(it.pcr),
 		Type:     uint32(it._type),
 		Data:     part(e.log, it.data),
 	}
 	for _, found := range it.digests[:it.digest_count] {
-		e.event.At -= 2 + uint32(found.digest.len)
 		e.event.Digests = append(e.event.Digests, Digest{Hash(found.hash), part(e.log, found.digest), found.hashed != 0})
 	}
 	return true
@@ -293,13 +313,14 @@ func (e *Events) Err() error { return e.err }
 type Verdict int
 
 const (
-	Matches Verdict = C.TPM_ATTEST_MATCHES
-	Differs Verdict = C.TPM_ATTEST_DIFFERS // the digest is another
-	Nonce   Verdict = C.TPM_ATTEST_NONCE   // the nonce is another
-	Lacks   Verdict = C.TPM_ATTEST_LACKS   // a required register is not selected
-	Empty   Verdict = C.TPM_ATTEST_EMPTY   // no register is selected
-	Signer  Verdict = -1                   // the signer is another
-	Unknown Verdict = -2                   // a digest of the log is not on the list
+	Matches  Verdict = C.TPM_ATTEST_MATCHES
+	Differs  Verdict = C.TPM_ATTEST_DIFFERS // the digest is another
+	Nonce    Verdict = C.TPM_ATTEST_NONCE   // the nonce is another
+	Lacks    Verdict = C.TPM_ATTEST_LACKS   // a required register is not selected
+	Empty    Verdict = C.TPM_ATTEST_EMPTY   // no register is selected
+	Signer   Verdict = -1                   // the signer is another
+	Unknown  Verdict = -2                   // a digest of the log is not on the list
+	Unsigned Verdict = -3                   // the signature is not by the key
 )
 
 // String says it in words.
@@ -307,20 +328,14 @@ func (v Verdict) String() string {
 	switch v {
 	case Matches:
 		return "matches"
-	case Differs:
-		return "digest differs"
-	case Nonce:
-		return "nonce differs"
-	case Lacks:
-		return "lacks a required register"
-	case Empty:
-		return "selects nothing"
 	case Signer:
 		return "signer differs"
 	case Unknown:
-		return "a digest is not allowed"
+		return "not allowed"
+	case Unsigned:
+		return "not signed by the key"
 	}
-	return fmt.Sprintf("Verdict(%d)", int(v))
+	return answerName(C.uint32_t(v))
 }
 
 // A Selected register is the one that a quote lacks, or the one of the digest that is not allowed, with how many bytes
@@ -355,9 +370,9 @@ func CheckQuote(log, quote []byte, hash Hash) (Verdict, error) {
 
 // Expected is what Check compares a quote with: the nonce that was sent, the TPML_PCR_SELECTION of the registers that
 // have to be there, which Selection makes of a text, the qualified Name of the key, if it is not nil, and the hash of
-// the signature's scheme. Where AnyNonce is true, the quote may be an old one; where AnySelection is true, it may be of
-// any registers. Where Allow is not nil, the quote has to select each register that it names, and each digest of the
-// log there has to be on it.
+// the signature's scheme, or 0 for the one whose digests are as long as the quote's. Where AnyNonce is true, the quote
+// may be an old one; where AnySelection is true, it may be of any registers. Where Allow is not nil, the quote has to
+// select each register that it names, and each digest of the log there has to be on it.
 type Expected struct {
 	Nonce, Selection       []byte
 	Signer                 []byte
@@ -366,22 +381,27 @@ type Expected struct {
 	AnyNonce, AnySelection bool
 }
 
-// Check compares a log with a TPMS_ATTEST of a quote, whose signature has to be verified elsewhere. The quote is good
-// where the verdict is Matches and the error nil. Otherwise the error is a *LogFault, a *Refusal of the quote's bytes,
-// ErrSized, ErrNoBank, ErrRequirement, or ErrNothing where the nonce has no byte, or the selection no register.
+// Check compares a log with a TPMS_ATTEST of a quote, whose signature has to be verified elsewhere, or by Verify. The
+// quote is good where the verdict is Matches and the error nil. Otherwise the error is a *LogFault, a *Refusal of the
+// quote's bytes, ErrSized, ErrNoBank, ErrRequirement, or ErrNothing where the nonce has no byte, or the selection no
+// register.
 func Check(log, attest []byte, expected Expected) (Verdict, Selected, error) {
 	var fault C.struct_tpm_attest_fault
-	nonce, selection := expected.Nonce, expected.Selection
+	nonce, selection, hash := expected.Nonce, expected.Selection, expected.Hash
+	signed, refused := DecodeAttest(attest)
+	if refused != nil {
+		signed = &Attest{}
+	}
 	if expected.AnyNonce {
-		nonce = nil
-		if it, err := DecodeAttest(attest); err == nil {
-			nonce = it.Nonce
-		}
+		nonce = signed.Nonce
 	}
 	if expected.AnySelection {
 		selection = nil
 	}
-	answer := C.tpm_log_check_attest(place(log), size(log), place(attest), size(attest), C.uint16_t(expected.Hash),
+	if hash == 0 {
+		hash = signed.hash()
+	}
+	answer := C.tpm_log_check_attest(place(log), size(log), place(attest), size(attest), C.uint16_t(hash),
 		place(nonce), size(nonce), place(selection), size(selection), &fault)
 	isNothing := !expected.AnyNonce && len(nonce) == 0 || !expected.AnySelection && !selects(selection)
 	if isNothing && answer != C.TPM_ATTEST_NO_BANK && answer != C.TPM_ATTEST_REQUIREMENT {
@@ -391,11 +411,11 @@ func Check(log, attest []byte, expected Expected) (Verdict, Selected, error) {
 	if err != nil {
 		return verdict, lacks, named(attest, err)
 	}
-	if it, err := DecodeAttest(attest); err == nil && expected.Signer != nil && !bytes.Equal(it.Signer, expected.Signer) {
+	if expected.Signer != nil && !bytes.Equal(signed.Signer, expected.Signer) {
 		return Signer, Selected{}, nil
 	}
-	if verdict == Matches && expected.Allow != nil {
-		verdict, lacks = expected.Allow.compared(log, attest)
+	if verdict == Matches {
+		verdict, lacks = expected.Allow.compared(log, signed)
 	}
 	return verdict, lacks, nil
 }

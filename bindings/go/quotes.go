@@ -51,6 +51,26 @@ type Attest struct {
 	Digest, Info     []byte
 }
 
+// selects says whether the register of a bank is selected.
+func (a *Attest) selects(bank Hash, register uint32) bool {
+	for _, it := range a.Selections {
+		if it.Bank == bank && it.Has(register) {
+			return true
+		}
+	}
+	return false
+}
+
+// hash is the one whose digests are as long as the quote's, or else any, which it doesn't match.
+func (a *Attest) hash() Hash {
+	for hash, bank := range banks {
+		if bank.size == len(a.Digest) {
+			return hash
+		}
+	}
+	return SHA256
+}
+
 // DecodeAttest gives the quote as it was signed that all the bytes spell, or a *Refusal, or ErrSized.
 func DecodeAttest(signed []byte) (*Attest, error) {
 	var it C.struct_tpm_attest

@@ -53,6 +53,7 @@ var (
 	ErrRequirement = errors.New("what is required is no TPML_PCR_SELECTION")
 	ErrNothing     = errors.New("the nonce has no byte, or what is required no register, and neither may be any")
 	ErrList        = errors.New("no list of registers, as sha256:0,1,2 or sha256:all")
+	ErrPEM         = errors.New("this is no PEM")
 	ErrDigest      = errors.New("a digest has another length than those of the policy's hash")
 	ErrBroken      = errors.New("no buffer has the size that was stated")
 	ErrTooLong     = errors.New("a value is too long")

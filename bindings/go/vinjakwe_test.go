@@ -2,10 +2,15 @@ package vinjakwe
 
 import (
 	"bytes"
+	"crypto"
+	"crypto/rsa"
+	"crypto/sha256"
+	"encoding/asn1"
 	"encoding/hex"
 	"encoding/json"
 	"errors"
 	"fmt"
+	"math/big"
 	"os"
 	"path/filepath"
 	"reflect"
@@ -108,7 +113,7 @@ func TestNamesAndTextsOfEachLogWithAList(t *testing.T) {
 		events := NewEvents(read(t, "logs/"+name+".log"))
 		for _, line := range strings.Split(strings.TrimSpace(string(read(t, "logs/"+name+".events"))), "\n") {
 			words := append(strings.SplitN(line, " ", 9), "", "")
-			if words[0] == "log" {
+			if line == "" || words[0] == "log" {
 				continue
 			}
 			if !events.Next() {
@@ -314,6 +319,126 @@ func TestWhatIsVouchedOfEachRecord(t *testing.T) {
 			if found := event.Vouched(attest); !reflect.DeepEqual(found, wanted) {
 				t.Errorf("%v in place of %v", found, wanted)
 			}
+		}
+	}
+}
+
+func TestTextsAndVariablesThatAreVouched(t *testing.T) {
+	attest, err := DecodeAttest(read(t, "quotes/ecc-sha256.msg"))
+	if err != nil {
+		t.Fatal(err)
+	}
+	record := func(kind uint32, data, measured string) Event {
+		digest := sha256.Sum256([]byte(measured))
+		return Event{Register: 7, Type: kind, Digests: []Digest{{SHA256, digest[:], false}}, Data: []byte(data)}
+	}
+	line := "kernel_cmdline: quiet"
+	for measured, wanted := range map[string]bool{line: true, "quiet": true, "other": false, line[1:]: false} {
+		event := record(0xd, line, measured)
+		if text, is := event.VouchedText(attest, SHA256); is != wanted || is && text != line {
+			t.Error(measured, text, is)
+		}
+		event.Register = 8
+		if _, is := event.VouchedText(attest, SHA256); is {
+			t.Error(measured)
+		}
+	}
+	variable := strings.Repeat("\x00", 16) + "\x02" + strings.Repeat("\x00", 7) + "\x03" + strings.Repeat("\x00", 7) +
+		"d\x00b\x00key"
+	for _, it := range []struct {
+		data, measured string
+		wanted         bool
+	}{
+		{variable, variable, true}, {variable + "0", variable, true}, {variable, "key", false},
+		{variable, "other", false}, {variable + "0", variable + "0", false},
+	} {
+		found, is := record(0x800000e0, it.data, it.measured).VouchedVariable(attest, SHA256)
+		if is != it.wanted || is && (found.Name != "db" || string(found.Value) != "key") {
+			t.Error(it, found, is)
+		}
+	}
+}
+
+// signed gives the signature of a quote, whose spelling is written here, and its key.
+func signed(t *testing.T, name string, it signedQuote) ([]byte, crypto.PublicKey) {
+	t.Helper()
+	key, err := PublicKey(read(t, "quotes/"+name+".pem"))
+	if err != nil {
+		t.Fatal(err)
+	}
+	sig, parts := read(t, "quotes/"+name+".sig"), [][]byte{}
+	spelled := []byte{0, byte(RSASSA), 0, byte(it.hash)}
+	if _, isRSA := key.(*rsa.PublicKey); isRSA {
+		parts = append(parts, sig)
+	} else {
+		var numbers struct{ R, S *big.Int }
+		if _, err := asn1.Unmarshal(sig, &numbers); err != nil {
+			t.Fatal(err)
+		}
+		spelled[1] = byte(ECDSA)
+		parts = append(parts, numbers.R.Bytes(), numbers.S.Bytes())
+	}
+	for _, part := range parts {
+		spelled = append(append(spelled, byte(len(part)>>8), byte(len(part))), part...)
+	}
+	return spelled, key
+}
+
+func TestEachQuoteIsByItsKey(t *testing.T) {
+	names := []string{"ecc-sha256", "ecc-two-banks", "rsa-sha1", "not-measured"}
+	_, other := signed(t, names[2], quotes(t)[2])
+	for i, it := range quotes(t) {
+		spelled, key := signed(t, names[i], it)
+		attest, err := DecodeAttest(it.quote)
+		if err != nil {
+			t.Fatal(err)
+		}
+		expected := Expected{Nonce: it.nonce, AnySelection: true}
+		if found, err := Verify(it.log, it.quote, spelled, key, expected); err != nil || !reflect.DeepEqual(found, attest) {
+			t.Error(found, err)
+		}
+		verdict := func(quote, spelled []byte, key crypto.PublicKey, expected Expected) Verdict {
+			var mismatch *Mismatch
+			found, err := Verify(it.log, quote, spelled, key, expected)
+			if found != nil || !errors.As(err, &mismatch) {
+				t.Fatal(found, err)
+			}
+			return mismatch.Verdict
+		}
+		if i != 2 && verdict(it.quote, spelled, other, expected) != Unsigned ||
+			verdict(append(append([]byte{}, it.quote...), 0), spelled, key, expected) != Unsigned ||
+			verdict(it.quote, append(append([]byte{}, spelled[:len(spelled)-1]...), ^spelled[len(spelled)-1]), key,
+				expected) != Unsigned ||
+			verdict(it.quote, spelled, key, Expected{Nonce: []byte{1}, AnySelection: true}) != Nonce {
+			t.Error("not the verdict that is wanted")
+		}
+		if _, err := Verify(it.log, it.quote, nil, key, expected); !errors.As(err, new(*Refusal)) {
+			t.Error(err)
+		}
+	}
+	if _, err := PublicKey([]byte("key")); !errors.Is(err, ErrPEM) {
+		t.Error(err)
+	}
+}
+
+func TestWhatAMismatchSays(t *testing.T) {
+	for mismatch, wanted := range map[Mismatch]string{
+		{Verdict: Differs}: "digest differs", {Verdict: Nonce}: "nonce differs", {Verdict: Empty}: "selects nothing",
+		{Lacks, Selected{SHA1, 7, 0}}:      "selection lacks sha1 7",
+		{Unknown, Selected{SHA256, 4, 73}}: "not allowed sha256 4 at 73",
+		{Verdict: Unsigned}:                "not signed by the key",
+	} {
+		if found := mismatch.Error(); found != wanted {
+			t.Error(found)
+		}
+	}
+}
+
+func TestTheHashByTheLengthOfTheDigest(t *testing.T) {
+	for _, it := range quotes(t) {
+		verdict, _, err := Check(it.log, it.quote, Expected{Nonce: it.nonce, AnySelection: true})
+		if verdict != Matches || err != nil {
+			t.Error(verdict, err)
 		}
 	}
 }

@@ -92,14 +92,16 @@ def frames(size, stream):
 
 def said(verdict):
     return {Kind.MATCHES: "matches", Kind.NONCE: "nonce differs", Kind.LACKS: f"lacks {verdict.hash} {verdict.pcr}",
-            Kind.EMPTY: "selects nothing", Kind.DIFFERS: "digest differs"}[verdict.kind]
+            Kind.EMPTY: "selects nothing", Kind.DIFFERS: "digest differs",
+            Kind.UNKNOWN: f"unknown {verdict.hash} {verdict.pcr} at {verdict.at}"}[verdict.kind]
 
 
-def attest(log, quote, nonce, require, hash):
+def attest(log, quote, nonce, require, hash, list=None):
     nonce = vinjakwe.ANY_NONCE if nonce == "any" else unhex(nonce)
     require = vinjakwe.ANY_SELECTION if require == "any" else unhex(require)
+    allow = list and whole(list).decode()
     try:
-        yield said(vinjakwe.check(log, unhex(quote), nonce, require, hash))
+        yield said(vinjakwe.check(log, unhex(quote), nonce, require, hash, allow=allow))
     except (Refusal, LogFault):
         raise
     except ValueError as fault:

@@ -7,7 +7,7 @@ import (
 	"vinjakwe"
 )
 
-// attest prints what is said of a quote: attest LOG ATTEST NONCE REQUIRE HASH.
+// attest prints what is said of a quote: attest LOG ATTEST NONCE REQUIRE HASH [LIST].
 func attest(words []string) {
 	expected := vinjakwe.Expected{Hash: hashes[words[5]], AnyNonce: words[3] == "any", AnySelection: words[4] == "any"}
 	if !expected.AnyNonce {
@@ -15,6 +15,12 @@ func attest(words []string) {
 	}
 	if !expected.AnySelection {
 		expected.Selection = unhex(words[4])
+	}
+	if len(words) > 6 && words[6] != "" {
+		var err error
+		if expected.Allow, err = vinjakwe.ParseAllowed(string(read(words[6]))); err != nil {
+			panic(err)
+		}
 	}
 	verdict, lacks, err := vinjakwe.Check(read(words[1]), unhex(words[2]), expected)
 	switch {
@@ -26,6 +32,8 @@ func attest(words []string) {
 		tell(err)
 	case verdict == vinjakwe.Lacks:
 		fmt.Fprintln(out, "lacks", lacks)
+	case verdict == vinjakwe.Unknown:
+		fmt.Fprintln(out, "unknown", lacks, "at", lacks.At)
 	default:
 		fmt.Fprintln(out, verdict)
 	}

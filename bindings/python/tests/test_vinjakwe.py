@@ -2,6 +2,7 @@
 bindings/python."""
 import copy
 import hashlib
+import importlib.util
 import json
 import pickle
 import sys
@@ -239,6 +240,32 @@ class Quotes(unittest.TestCase):
                 self.assertEqual(v.vouched(event._replace(type=3), attest), {})
             self.assertEqual(count == 0, selected == "sha256:10,11,12")
 
+    def test_texts_and_variables_that_are_vouched(self):
+        attest = v.decode_attest((CHECKS / "quotes" / "ecc-sha256.msg").read_bytes())
+
+        def record(type, data, measured, register=7):
+            return v.Event(1, 0, register, type, {"sha256": hashlib.sha256(measured).digest()}, data, ())
+
+        line = b"kernel_cmdline: quiet"
+        for measured, told in ((line, "kernel_cmdline: quiet"), (b"quiet", "kernel_cmdline: quiet"), (b"other", None),
+                               (line[:-1], None)):
+            self.assertEqual(v.vouched_text(record(0xD, line, measured), attest, "sha256"), told)
+        self.assertIsNone(v.vouched_text(record(0xD, line, line, 8), attest, "sha256"))
+        self.assertIsNone(v.vouched_text(record(0xD, line, line), attest, "sha1"))
+        name = "db".encode("utf-16-le")
+        data = bytes(16) + (2).to_bytes(8, "little") + (3).to_bytes(8, "little") + name + b"key"
+        for data, measured, told in ((data, data, True), (data + b"0", data, True), (data, b"key", False),
+                                     (data, b"other", False), (data + b"0", data + b"0", False)):
+            found = v.vouched_variable(record(0x800000E0, data, measured), attest, "sha256")
+            self.assertEqual(found and found[1:], ("db", b"key") if told else None)
+        self.assertIsNone(v.vouched_variable(record(0x800000E0, data, data, 9), attest, "sha256"))
+
+    def test_the_hash_by_the_length_of_the_digest(self):
+        for log, quote, nonce, selected, _ in quotes():
+            self.assertTrue(v.check(log, quote, nonce, selected))
+        with self.assertRaises(v.Refusal):
+            v.check(LOG, b"", b"1", "sha256:0")
+
     def test_a_list_of_digests(self):
         log, quote, nonce, selected, hash = next(it for it in quotes() if it[3] == "sha256:0,1,2,3,4,5,6,7")
         found = [(it.register, it.digests["sha256"], it.at) for it in v.events(log) if it.type != 3]
@@ -291,12 +318,61 @@ class Signatures(unittest.TestCase):
             self.assertEqual((caught.exception.code, caught.exception.at), (code, at), text)
 
 
+@unittest.skipUnless(importlib.util.find_spec("cryptography"), "there is no cryptography")
+class Verified(unittest.TestCase):
+    def signed(self):
+        """The quotes with their signatures, whose spelling is written here, and their keys in PEM."""
+        from cryptography.hazmat.primitives.asymmetric.utils import decode_dss_signature
+        for line in (CHECKS / "quotes" / "cases.txt").read_text().splitlines():
+            name, log, hash, nonce, selected = line.split()
+            log, (quote, key, sig) = (CHECKS / "quotes" / log).read_bytes(), (
+                (CHECKS / "quotes" / f"{name}.{it}").read_bytes() for it in ("msg", "pem", "sig"))
+            scheme, parts = (0x14, [sig]) if name.startswith("rsa") else (
+                0x18, [it.to_bytes(48, "big") for it in decode_dss_signature(sig)])
+            head = scheme.to_bytes(2, "big") + v.HASHES[hash].to_bytes(2, "big")
+            spelled = head + b"".join(len(it).to_bytes(2, "big") + it for it in parts)
+            yield log, quote, spelled, key, bytes.fromhex(nonce), selected
+
+    def test_each_quote_is_by_its_key(self):
+        for words in self.signed():
+            self.assertEqual(v.verify(*words), v.decode_attest(words[1]))
+
+    def test_what_is_not_to_be_believed(self):
+        keys = [words[3] for words in self.signed()]
+        for log, quote, spelled, key, nonce, selected in self.signed():
+            def kind(**other):
+                words = {"log": log, "attest": quote, "signature": spelled, "key": key, "nonce": nonce,
+                         "require": selected, **other}
+                with self.assertRaises(v.Mismatch) as caught:
+                    v.verify(**words)
+                return caught.exception.verdict.kind
+            for other in keys:
+                if other != key:
+                    self.assertIs(kind(key=other), v.Kind.UNSIGNED)
+            self.assertIs(kind(attest=quote + b"0"), v.Kind.UNSIGNED)
+            self.assertIs(kind(signature=spelled[:-1] + bytes([spelled[-1] ^ 1])), v.Kind.UNSIGNED)
+            self.assertIs(kind(nonce=b"1"), v.Kind.NONCE)
+            self.assertIs(kind(require="sha384:9"), v.Kind.LACKS)
+            self.assertIs(kind(signer=b"1"), v.Kind.SIGNER)
+            self.assertIs(kind(allow="sha384 9 " + "00" * 48), v.Kind.LACKS)
+            self.assertRaises(v.Refusal, v.verify, log, quote, b"", key, nonce, selected)
+            self.assertRaises(ValueError, v.verify, log, quote, spelled, b"key", nonce, selected)
+
+
 class Faults(unittest.TestCase):
     def test_faults_are_pickled_and_copied(self):
         for fault in (v.Refusal(0x1C4, 10), v.SizedAttest(0x84, 0), v.LogFault(1, 211), v.SecureBootFault(67, 548),
-                      v.BrokenStream([b"frame"])):
+                      v.BrokenStream([b"frame"]), v.Mismatch(v.Verdict(v.Kind.LACKS, "sha1", 7))):
             for made in pickle.loads(pickle.dumps(fault)), copy.copy(fault):
                 self.assertEqual((type(made), str(made), vars(made)), (type(fault), str(fault), vars(fault)))
+
+    def test_what_a_mismatch_says(self):
+        for verdict, said in ((v.Verdict(v.Kind.DIFFERS), "digest differs"), (v.Verdict(v.Kind.NONCE), "nonce differs"),
+                              (v.Verdict(v.Kind.LACKS, "sha1", 7), "selection lacks sha1 7"),
+                              (v.Verdict(v.Kind.EMPTY), "selects nothing"),
+                              (v.Verdict(v.Kind.UNKNOWN, "sha256", 4, 73), "not allowed sha256 4 at 73"),
+                              (v.Verdict(v.Kind.UNSIGNED), "not signed by the key")):
+            self.assertEqual(str(v.Mismatch(verdict)), said)
 
     def test_position_and_name_of_a_refusal(self):
         with self.assertRaises(v.Refusal) as caught:

@@ -9,6 +9,7 @@ from __future__ import annotations
 
 import ctypes
 import enum
+import importlib
 import os
 import uuid
 from contextlib import contextmanager
@@ -27,19 +28,20 @@ if TYPE_CHECKING:
     Selected = Union[Buffer, str]
 
 __all__ = [
-    "ANY_NONCE", "ANY_SELECTION", "Attest", "BrokenStream", "BUFFER_BYTES", "Caller", "CODES", "COMMANDS", "Command",
-    "Counter", "Device", "Event", "Framer", "HASHES", "Kind", "LibraryError", "LogFault", "NONCE_BYTES", "OWNER_BYTES",
-    "Policy", "Refusal", "Registers", "Response", "SecureBoot", "SecureBootFault", "SecureBootState", "Session",
-    "Signature", "SizedAttest", "Variable", "Verdict", "build_command", "changes_nv", "check", "check_quote",
-    "code_name", "decode_attest", "decode_command", "decode_response", "decode_signature", "event_type_name", "events",
-    "measured", "replay", "secure_boot", "selection", "text", "variable", "vouched",
+    "ANY_NONCE", "ANY_SELECTION", "Attest", "BrokenStream", "BUFFER_BYTES", "Caller", "CODES", "Command", "COMMANDS",
+    "Counter", "Device", "Event", "Framer", "HASHES", "Kind", "LibraryError", "LogFault", "Mismatch", "NONCE_BYTES",
+    "OWNER_BYTES", "Policy", "Refusal", "Registers", "Response", "SecureBoot", "SecureBootFault", "SecureBootState",
+    "Session", "Signature", "SizedAttest", "Variable", "Verdict", "build_command", "changes_nv", "check",
+    "check_quote", "code_name", "decode_attest", "decode_command", "decode_response", "decode_signature",
+    "event_type_name", "events", "measured", "replay", "secure_boot", "selection", "text", "variable", "verify",
+    "vouched", "vouched_text", "vouched_variable",
 ]
 __version__ = "0.1.0"
 
 # As in vinjakwe.h, with which a test compares them.
 BUFFER_BYTES, OWNER_BYTES, NONCE_BYTES = 4096, 48, 64
 REGISTERS_BYTES, DEVICE_KEPT_BYTES, SELECTION_BYTES = 2400, 1026, 22
-EVENT_TYPE_BYTES, CODE_NAME_BYTES, LOG_NAME_BYTES = 32, 37, 18
+EVENT_TYPE_BYTES, CODE_NAME_BYTES, LOG_NAME_BYTES = 32, 37, 19
 HASHES = {"sha1": 0x0004, "sha256": 0x000B, "sha384": 0x000C}
 SCHEMES = {"rsassa": 0x0014, "rsapss": 0x0016, "ecdsa": 0x0018}
 MEASURED = {"data": 36, "variable": 37, "text": 38, "cut": 39, "other": 40}
@@ -60,7 +62,7 @@ CODES = {
 }
 _DONE, _REFUSED, _NO_ROOM, _NO_COMMAND = range(4)
 _FRAMER_MORE, _FRAMER_READY, _FRAMER_BROKEN = range(3)
-_EVENT, _VARIABLE, _TEXT, _TEXT_UTF16, _CALLER_OPENED = 32, 33, 34, 35, 0
+_EVENT, _VARIABLE, _TEXT, _TEXT_UTF16, _NOT_ALLOWED, _CALLER_OPENED = 32, 33, 34, 35, 42, 0
 _LOG_DONE, _ATTEST_DIFFERS, _ATTEST_REFUSED, _ATTEST_NO_BANK, _ATTEST_REQUIREMENT = 0, 16, 17, 18, 22
 _POLICY_NO_DIGEST = 5
 _SECURE_BOOT_NO_ROOM, _SECURE_BOOT_NOT_MEASURED = 51, 64
@@ -84,7 +86,7 @@ def code_name(code: int) -> str:
 
 
 def _answer_name(answer: int) -> str:
-    """The name of what a call on a log answered, as `Truncated` or `NotMeasured`."""
+    """The name of what a call on a log or a quote answered, as `Truncated`, `NotMeasured` or `nonce differs`."""
     out = (c_uint8 * LOG_NAME_BYTES)()
     return bytes(out[:_library.tpm_log_answer_name(answer, out, LOG_NAME_BYTES)]).decode("ascii")
 
@@ -184,8 +186,8 @@ class _LogDigest(Structure):
 
 
 class _LogEvent(Structure):
-    _fields_ = [("pcr", c_uint32), ("type", c_uint32), ("digest_count", c_size_t), ("digests", _LogDigest * 8),
-                ("data", _Part)]
+    _fields_ = [("at", c_uint32), ("pcr", c_uint32), ("type", c_uint32), ("digest_count", c_size_t),
+                ("digests", _LogDigest * 8), ("data", _Part)]
 
 
 class _Variable(Structure):
@@ -209,6 +211,10 @@ class _Signature(Structure):
 
 class _AttestFault(Structure):
     _fields_ = [("code", c_uint32), ("at", c_uint32), ("hash", c_uint16), ("pcr", c_uint32)]
+
+
+class _AllowedDigest(Structure):
+    _fields_ = [("pcr", c_uint32), ("hash", c_uint16), ("digest", c_uint8 * 48)]
 
 
 class _Counter(Structure):
@@ -274,6 +280,7 @@ def _load() -> tuple[ctypes.PyDLL, ctypes.CDLL]:
         ("selection", size, [p, size, p, size]),
         ("log_measured", number, [number, p, size, c_uint16, p, size]),
         ("log_vouched", number, [p, size, number, number, p, size, c_uint16, p, size]),
+        ("log_allowed", number, [p, size, number, number, c_uint16, p, size]),
         ("caller_init", None, [p]), ("caller_start", number, [p, p, size, p, size, p, size]),
         ("caller_seal", size, [p, p, size, p, size, p, size, p, size, p, size, number, p, size]),
         ("caller_open", number, [p, p, size]), ("caller_give_up", number, [p, p, size]),
@@ -518,14 +525,12 @@ def events(log: Log) -> Iterator[Event]:
     place, event, at, number, whole = _LogPlace(), _LogEvent(), c_uint32(), 0, _whole(log)
     while (said := _lend(_library.tpm_log_event, (whole,), byref(place), byref(event), byref(at))) == _EVENT:
         number += 1
-        listed = event.digests[:event.digest_count]
-        found: list[tuple[str | int, _LogDigest]] = [(_HASH_NAMES.get(it.hash, it.hash), it) for it in listed]
+        found: list[tuple[str | int, _LogDigest]] = [
+            (_HASH_NAMES.get(it.hash, it.hash), it) for it in event.digests[:event.digest_count]]
         with memoryview(whole).cast("B") as view:
             digests, data = {name: _part(view, it.digest) for name, it in found}, _part(view, event.data)
-        # Before the data are three numbers and their size, and the digests, each behind its hash (TCG_PCR_EVENT2).
-        begin = event.data.at - 16 - sum(2 + it.digest.len for it in listed)
         hashed = tuple(name for name, it in found if it.hashed)
-        yield Event(number, begin, event.pcr, event.type, digests, data, hashed)
+        yield Event(number, event.at, event.pcr, event.type, digests, data, hashed)
     _raise_fault(said, at.value)
 
 
@@ -704,6 +709,21 @@ def vouched(event: Event, attest: Attest) -> dict[str, str]:
             for name, part in found.items() if part}
 
 
+def vouched_text(event: Event, attest: Attest, bank: str) -> str | None:
+    """The text that the data of a record are, where the quote vouches for it in this bank: where all the data were
+    measured, or what stands behind a prefix that GRUB writes, which is there in the text."""
+    return text(event) if vouched(event, attest).get(bank) in ("data", "text") else None
+
+
+def vouched_variable(event: Event, attest: Attest, bank: str) -> Variable | None:
+    """The variable that the data of a record are, where the quote vouches for its name and its value in this bank:
+    where all the data were measured, or all but a last byte that is not the variable's."""
+    part = vouched(event, attest).get(bank)
+    if part not in ("data", "cut"):
+        return None
+    return variable(event._replace(data=event.data[:-1]) if part == "cut" else event)
+
+
 class Signature(NamedTuple):
     """The signature of a quote: its scheme, as `rsassa`, `rsapss` or `ecdsa`, and its hash; the bytes of one by an RSA
     key; the numbers of one by a key on a curve."""
@@ -713,6 +733,30 @@ class Signature(NamedTuple):
     sig: bytes
     r: int
     s: int
+
+    def is_by(self, key: Any, signed: Buffer) -> bool:
+        """Whether it is the signature of these bytes by this key: a public key of the package `cryptography`, which
+        judges it."""
+        ec, padding, rsa, utils = (_cryptography("hazmat.primitives.asymmetric." + it)
+                                   for it in ("ec", "padding", "rsa", "utils"))
+        hash = getattr(_cryptography("hazmat.primitives.hashes"), self.hash.upper())()
+        salted = padding.PSS(padding.MGF1(hash), padding.PSS.AUTO)
+        try:
+            if self.scheme == "ecdsa" and isinstance(key, ec.EllipticCurvePublicKey):
+                key.verify(utils.encode_dss_signature(self.r, self.s), bytes(signed), ec.ECDSA(hash))
+            elif self.scheme != "ecdsa" and isinstance(key, rsa.RSAPublicKey):
+                padded = salted if self.scheme == "rsapss" else padding.PKCS1v15()
+                key.verify(self.sig, bytes(signed), padded, hash)
+            else:
+                return False
+        except _cryptography("exceptions").InvalidSignature:
+            return False
+        return True
+
+
+def _cryptography(module: str) -> Any:
+    """A module of the package `cryptography`, which nothing else wants."""
+    return importlib.import_module("cryptography." + module)
 
 
 def decode_signature(data: Buffer) -> Signature:
@@ -727,14 +771,14 @@ def decode_signature(data: Buffer) -> Signature:
 
 class Kind(enum.Enum):
     MATCHES, DIFFERS, NONCE, LACKS, EMPTY = 0, 16, 19, 20, 21
-    SIGNER, UNKNOWN = -1, -2
+    SIGNER, UNKNOWN, UNSIGNED = -1, -2, -3
 
 
 class Verdict(NamedTuple):
     """What is said of a quote: it matches, or the first that fails: another signer, another nonce, a required register
     that is not selected (its bank and number are there), another digest, no register is selected, or a digest isn't on
     the list of those that are allowed (its bank and register are there, and how many bytes of the log precede its
-    record). It is true where the quote matches."""
+    record); and by `verify`, that it isn't signed by the key. It is true where the quote matches."""
 
     kind: Kind
     hash: str | None = None
@@ -773,20 +817,22 @@ ANY_SELECTION: Final = _Unasked.SELECTION
 
 
 def check(log: Log, attest: Buffer, nonce: Buffer | Literal[_Unasked.NONCE],
-          require: Selected | Literal[_Unasked.SELECTION], hash: str = "sha256",
+          require: Selected | Literal[_Unasked.SELECTION], hash: str | None = None,
           signer: Buffer | None = None, allow: str | None = None) -> Verdict:
-    """Compares a log with a TPMS_ATTEST of a quote, whose signature has to be verified elsewhere: its nonce, the
-    registers that are required, and the digest under this hash. The log is given by its bytes, its path, or a file that
-    is read to its end; `nonce` is the one that was sent, or ANY_NONCE; `require` is a TPML_PCR_SELECTION, a list as
-    `sha256:0,7`, or ANY_SELECTION; `signer` is the qualified Name of the key, where it is to be compared; `allow` is a
-    list of digests, as the lines of `tpmtool check LOG --extends`: the quote has to select each register that it names,
-    and each digest of the log there has to be on it. Raises LogFault, and Refusal for bytes that spell no quote;
-    ValueError where `require` is no selection or has no register, the nonce has no byte, or `allow` is no list."""
+    """Compares a log with a TPMS_ATTEST of a quote, whose signature has to be verified elsewhere or by `verify`: its
+    nonce, the registers that are required, and the digest under this hash, or else under the one whose digests are as
+    long. The log is given by its bytes, its path, or a file that is read to its end; `nonce` is the one that was sent,
+    or ANY_NONCE; `require` is a TPML_PCR_SELECTION, a list as `sha256:0,7`, or ANY_SELECTION; `signer` is the qualified
+    Name of the key, where it is to be compared; `allow` is a list of digests, as the lines of `tpmtool check LOG
+    --extends`: the quote has to select each register that it names, and each digest of the log there has to be on it.
+    Raises LogFault, and Refusal for bytes that spell no quote; ValueError where `require` is no selection or has no
+    register, the nonce has no byte, or `allow` is no list."""
     fault, whole = _AttestFault(), _whole(log)
-    allowed = {} if allow is None else _allowed(allow)
+    allowed = _allowed(allow or "")
     listed = b"" if require is ANY_SELECTION else _selected(require)
     sent = _nonce_of(attest) if nonce is ANY_NONCE else nonce
-    answer = _lend_long("tpm_log_check_attest", (whole,), (attest,), _hash(hash), (sent,), (listed,), byref(fault))
+    name = _hash_of(attest) if hash is None else hash
+    answer = _lend_long("tpm_log_check_attest", (whole,), (attest,), _hash(name), (sent,), (listed,), byref(fault))
     if answer == _ATTEST_REQUIREMENT:
         raise ValueError("require: " + str(Refusal(fault.code, fault.at)))
     if nonce is not ANY_NONCE and not memoryview(nonce).nbytes:
@@ -799,31 +845,34 @@ def check(log: Log, attest: Buffer, nonce: Buffer | Literal[_Unasked.NONCE],
         return Verdict(Kind.SIGNER)
     lacks = Kind(answer) is Kind.LACKS
     verdict = Verdict(Kind(answer), _HASH_NAMES[fault.hash] if lacks else None, fault.pcr if lacks else None)
-    return _compared(whole, attest, allowed) if verdict else verdict
+    return _compared(whole, attest, allowed) if verdict and len(allowed) else verdict
 
 
-def _allowed(text: str) -> dict[tuple[str, int], set[bytes]]:
-    """The digests of each register of a list: of a line its bank, its register and the digest, and behind these and
-    behind `#` any words."""
-    found: dict[tuple[str, int], set[bytes]] = {}
+def _allowed(text: str) -> ctypes.Array[_AllowedDigest]:
+    """The digests of a list: of each line its bank, its register and the digest, and behind these and behind `#` any
+    words."""
+    found: list[_AllowedDigest] = []
     for number, line in enumerate(text.splitlines(), 1):
         words = line.partition("#")[0].split()
         if words and (len(words) < 3 or words[0] not in HASHES or not words[1].isdecimal() or int(words[1]) > 23
                       or len(words[2]) != 2 * _DIGESTS[words[0]][1]):
             raise ValueError(f"allow: line {number} is no bank, register and digest, as sha256 4 DIGEST")
         if words:
-            found.setdefault((words[0], int(words[1])), set()).add(bytes.fromhex(words[2]))
-    return found
+            digest = bytes.fromhex(words[2]).ljust(48, b"\0")
+            found.append(_AllowedDigest(int(words[1]), HASHES[words[0]], (c_uint8 * 48)(*digest)))
+    return (_AllowedDigest * len(found))(*found)
 
 
-def _compared(log: Buffer, attest: Buffer, allowed: dict[tuple[str, int], set[bytes]]) -> Verdict:
+def _compared(log: Buffer, attest: Buffer, allowed: ctypes.Array[_AllowedDigest]) -> Verdict:
     """Whether the quote selects each register of the list, and the list has each digest by which the log extends it."""
-    selected = {(bank, pcr) for bank, registers in decode_attest(attest).selections for pcr in registers}
-    for bank, pcr in sorted(allowed.keys() - selected):
-        return Verdict(Kind.LACKS, bank, pcr)
+    selected = {(HASHES[bank], pcr) for bank, registers in decode_attest(attest).selections for pcr in registers}
+    for hash, pcr in sorted({(it.hash, it.pcr) for it in allowed} - selected):
+        return Verdict(Kind.LACKS, _HASH_NAMES[hash], pcr)
     for event in events(log):
         for name, digest in event.digests.items():
-            if event.type != 3 and digest not in allowed.get((str(name), event.register), (digest,)):
+            hash = HASHES[name] if isinstance(name, str) else name
+            said = _lend(_library.tpm_log_allowed, allowed, len(allowed), event.register, event.type, hash, (digest,))
+            if said == _NOT_ALLOWED:
                 return Verdict(Kind.UNKNOWN, str(name), event.register, event.at)
     return Verdict(Kind.MATCHES)
 
@@ -834,6 +883,48 @@ def _nonce_of(attest: Buffer) -> bytes:
         return decode_attest(attest).nonce
     except Refusal:
         return b""
+
+
+def _hash_of(attest: Buffer) -> str:
+    """The hash whose digests are as long as that of a quote, or any of other bytes, which match nothing."""
+    try:
+        info = decode_attest(attest).info
+    except Refusal:
+        return "sha256"
+    # The digest stands behind a count, six bytes for each entry, and its size.
+    size = len(info) - 6 - 6 * int.from_bytes(info[:4], "big")
+    return next((name for name, (_, bytes) in _DIGESTS.items() if bytes == size), "sha256")
+
+
+class Mismatch(ValueError):
+    """A quote is not to be believed, for this verdict."""
+
+    def __init__(self, verdict: Verdict) -> None:
+        name = {Kind.SIGNER: "signer differs", Kind.UNKNOWN: "not allowed", Kind.UNSIGNED: "not signed by the key"}
+        register = "" if verdict.hash is None else f" {verdict.hash} {verdict.pcr}"
+        place = "" if verdict.at is None else f" at {verdict.at}"
+        super().__init__((name.get(verdict.kind) or _answer_name(verdict.kind.value)) + register + place)
+        self.verdict = verdict
+
+    def __reduce__(self) -> tuple[type[Mismatch], tuple[Verdict]]:
+        return Mismatch, (self.verdict,)
+
+
+def verify(log: Log, attest: Buffer, signature: Buffer, key: Any, nonce: Buffer | Literal[_Unasked.NONCE],
+           require: Selected | Literal[_Unasked.SELECTION], signer: Buffer | None = None,
+           allow: str | None = None) -> Attest:
+    """What a quote says that is to be believed: its signature, a TPMT_SIGNATURE, is by this key, one of the package
+    `cryptography` or its PEM, and `check` by the signature's hash is true. Raises Mismatch where it isn't, and what
+    `check` and `decode_signature` raise."""
+    it, quote = decode_signature(signature), bytes(attest)
+    if isinstance(key, (bytes, bytearray, memoryview)):
+        key = _cryptography("hazmat.primitives.serialization").load_pem_public_key(bytes(key))
+    if not it.is_by(key, quote):
+        raise Mismatch(Verdict(Kind.UNSIGNED))
+    verdict = check(log, quote, nonce, require, it.hash, signer, allow)
+    if not verdict:
+        raise Mismatch(verdict)
+    return decode_attest(quote)
 
 
 class Policy:

@@ -20,12 +20,13 @@ fn main() {
     tell!(tpm_response_areas, code, handle_count, handle, parameters, session_count, sessions);
     tell!(tpm_log_place, at, late);
     tell!(tpm_log_digest, hash, hashed, digest);
-    tell!(tpm_log_event, pcr, r#type, digest_count, digests, data);
+    tell!(tpm_log_event, at, pcr, r#type, digest_count, digests, data);
     tell!(tpm_variable, guid, name, value);
     tell!(tpm_secure_boot, dma_protection_disabled, pk, kek, db, dbx);
     tell!(tpm_attest, signer, nonce, clock, reset_count, restart_count, safe, firmware_version, selections, digest);
     tell!(tpm_signature, scheme, hash, sig, r, s);
     tell!(tpm_attest_fault, code, at, hash, pcr);
+    tell!(tpm_allowed, pcr, hash, digest);
     tell!(tpm_policy, hash, digest);
     tell!(tpm_counter, index, hash, attributes, value, policy_len, policy, has_auth);
     for (number, name) in vinjakwe::LOG_FAULTS.iter().enumerate() {

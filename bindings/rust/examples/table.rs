@@ -167,12 +167,16 @@ fn frames(out: &mut impl Write, size: usize, stream: &[u8]) -> std::io::Result<(
     if inside { writeln!(out, "inside") } else { Ok(()) }
 }
 
-// What is said of a quote: attest LOG ATTEST NONCE REQUIRED HASH.
+// What is said of a quote: attest LOG ATTEST NONCE REQUIRED HASH [LIST].
 fn attest(out: &mut impl Write, words: &[&str]) -> std::io::Result<()> {
     let (nonce, required) = (unhex(words[3].trim_start_matches("any")), unhex(words[4].trim_start_matches("any")));
     let nonce = if words[3] == "any" { Nonce::Any } else { Nonce::Is(&nonce) };
     let required = if words[4] == "any" { Required::Any } else { Required::Registers(&required) };
-    let expected = Expected::new(nonce, required, bank(words[5]));
+    let mut expected = Expected::new(nonce, required, bank(words[5]));
+    let list = if words[6].is_empty() { String::new() } else { std::fs::read_to_string(words[6])? };
+    let allowed: Result<Vec<_>, usize> = allowed_digests(&list).collect();
+    let allowed = allowed.expect("a list of digests");
+    expected.allow = Some(&allowed);
     match check(&std::fs::read(words[1])?, &unhex(words[2]), &expected) {
         Ok(verdict) => writeln!(out, "{verdict}"),
         Err(Fault::Nothing) => writeln!(out, "nothing to compare"),

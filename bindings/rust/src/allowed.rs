@@ -1,69 +1,75 @@
 //! Digests by which registers may be extended.
-use crate::{events, Attest, Bank, Fault, Verdict};
+use crate::{c, events, Attest, Bank, Event, Fault, Verdict};
+use core::mem::{offset_of, size_of};
 
-/// A list of digests that are allowed, as the lines of `tpmtool check LOG --extends`: of each line its bank, its
-/// register and the digest, as `sha256 4 DIGEST`, and behind these and behind `#` any words.
+/// A digest by which a register of a bank may be extended.
 #[derive(Clone, Copy, Debug, PartialEq, Eq)]
-pub struct Allowed<'a>(&'a str);
-
-impl<'a> Allowed<'a> {
-    /// This list, or the number of the first line that is none.
-    pub fn of(text: &'a str) -> Result<Self, usize> {
-        let wrong = text.lines().position(|line| !is_empty(line) && entry(line).is_none());
-        wrong.map_or(Ok(Allowed(text)), |line| Err(line + 1))
-    }
-
-    fn entries(self) -> impl Iterator<Item = (Bank, u32, &'a str)> {
-        self.0.lines().filter_map(entry)
-    }
-
-    /// What is said of a quote that matches the log: whether it selects each register of the list, and whether the list
-    /// has each digest by which the log extends it.
-    pub(crate) fn compared(self, log: &[u8], attest: &Attest) -> Result<Verdict, Fault> {
-        for (bank, register, _) in self.entries() {
-            let mut selected = attest.selections().filter(|(entry, _)| *entry == bank);
-            if !selected.any(|(_, mut registers)| registers.any(|it| it == register as usize)) {
-                return Ok(Verdict::Lacks(bank, register));
-            }
-        }
-        for event in events(log) {
-            let event = event?;
-            for digest in event.digests.iter().filter(|_| event.kind != NO_ACTION) {
-                let here = |it: &(Bank, u32, &str)| it.0 as u16 == digest.hash && it.1 == event.register;
-                let mut listed = self.entries().filter(here).peekable();
-                let bank = listed.peek().map(|it| it.0);
-                if let (Some(bank), false) = (bank, listed.any(|it| is_hex_of(it.2, digest.bytes))) {
-                    return Ok(Verdict::Unknown(bank, event.register, event.at));
-                }
-            }
-        }
-        Ok(Verdict::Matches)
-    }
+#[repr(C)]
+pub struct AllowedDigest {
+    /// The register.
+    pub register: u32,
+    /// The bank.
+    pub bank: Bank,
+    /// The digest, of which as many bytes count as those of the bank have.
+    pub digest: [u8; 48],
 }
 
-/// EV_NO_ACTION, which extends nothing.
-const NO_ACTION: u32 = 3;
+// It lies as in C.
+const _: () = assert!(
+    size_of::<AllowedDigest>() == size_of::<c::tpm_allowed>()
+        && offset_of!(AllowedDigest, register) == offset_of!(c::tpm_allowed, pcr)
+        && offset_of!(AllowedDigest, bank) == offset_of!(c::tpm_allowed, hash)
+        && offset_of!(AllowedDigest, digest) == offset_of!(c::tpm_allowed, digest)
+);
 
-fn words(line: &str) -> impl Iterator<Item = &str> {
-    line.split('#').next().unwrap_or("").split_ascii_whitespace()
+/// The digests of a list, as the lines of `tpmtool check LOG --extends`: of each line its bank, its register and the
+/// digest, as `sha256 4 DIGEST`, and behind these and behind `#` any words. It is the number of a line that is none.
+pub fn allowed_digests(text: &str) -> impl Iterator<Item = Result<AllowedDigest, usize>> + '_ {
+    let lines = text.lines().map(|line| line.split('#').next().unwrap_or("")).zip(1..);
+    lines.filter(|(line, _)| !line.trim().is_empty()).map(|(line, number)| entry(line).ok_or(number))
 }
 
-fn is_empty(line: &str) -> bool {
-    words(line).next().is_none()
-}
-
-fn entry(line: &str) -> Option<(Bank, u32, &str)> {
-    let mut words = words(line);
+fn entry(line: &str) -> Option<AllowedDigest> {
+    let mut words = line.split_ascii_whitespace();
     let bank = words.next().and_then(|name| Bank::ALL.into_iter().find(|it| it.name() == name))?;
     let register = words.next()?.parse().ok().filter(|it| *it < 24)?;
-    let digest = words.next()?;
-    let is_digest = digest.len() == 2 * bank.digest_bytes() && digest.bytes().all(|it| it.is_ascii_hexdigit());
-    is_digest.then_some((bank, register, digest))
+    let (digits, mut digest) = (words.next()?.as_bytes(), [0; 48]);
+    if digits.len() != 2 * bank.digest_bytes() {
+        return None;
+    }
+    for (byte, pair) in digest.iter_mut().zip(digits.chunks(2)) {
+        let value = |at: usize| char::from(pair[at]).to_digit(16);
+        *byte = (16 * value(0)? + value(1)?) as u8;
+    }
+    Some(AllowedDigest { register, bank, digest })
 }
 
-/// Whether these digits, two for each byte, are those of the bytes.
-fn is_hex_of(digits: &str, bytes: &[u8]) -> bool {
-    let value = |digit: u8| char::from(digit).to_digit(16);
-    digits.as_bytes().chunks(2).map(|it| Some(16 * value(it[0])? + value(*it.get(1)?)?))
-        .eq(bytes.iter().map(|it| Some(u32::from(*it))))
+/// Whether a list names the register that a record extends in the bank of this digest, and doesn't have the digest for
+/// it.
+fn is_unknown(list: &[AllowedDigest], event: &Event, hash: u16, digest: &[u8]) -> bool {
+    // SAFETY: the list lies as in C, and both are there for the call.
+    let said = unsafe {
+        c::tpm_log_allowed(list.as_ptr().cast(), list.len(), event.register, event.kind, hash, digest.as_ptr(),
+            digest.len())
+    };
+    said == c::TPM_NOT_ALLOWED
+}
+
+/// What is said of a quote that matches the log: whether it selects each register of the list, and whether the list has
+/// each digest by which the log extends it.
+pub(crate) fn compared(list: &[AllowedDigest], log: &[u8], attest: &Attest) -> Result<Verdict, Fault> {
+    for it in list {
+        let mut selected = attest.selections().filter(|(bank, _)| *bank == it.bank);
+        if !selected.any(|(_, mut registers)| registers.any(|register| register == it.register as usize)) {
+            return Ok(Verdict::Lacks(it.bank, it.register));
+        }
+    }
+    for event in events(log).take_while(|_| !list.is_empty()) {
+        let event = event?;
+        for digest in event.digests.iter().filter(|it| is_unknown(list, &event, it.hash, it.bytes)) {
+            let bank = Bank::from_number(digest.hash).ok_or(Fault::NoBank)?;
+            return Ok(Verdict::Unknown(bank, event.register, event.at));
+        }
+    }
+    Ok(Verdict::Matches)
 }

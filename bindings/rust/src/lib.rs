@@ -17,7 +17,7 @@ mod states;
 
 use core::fmt;
 
-pub use allowed::Allowed;
+pub use allowed::{allowed_digests, AllowedDigest};
 pub use boots::{secure_boot, SecureBoot, SecureBootFault, SecureBootState, SECURE_BOOT_FAULTS};
 pub use buffers::{build_command, Command, List, Response, Session};
 pub use logs::{

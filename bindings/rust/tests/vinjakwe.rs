@@ -2,9 +2,9 @@
 use std::fmt::Write;
 use std::fs;
 use vinjakwe::{
-    changes_nv, check, check_quote, check_version, events, replay, secure_boot, Allowed, Attest, Bank, CodeName,
-    Device, Expected, Fault, LogFault, Nonce, Policy, Refusal, Replay, Required, Room, Selection, Signature, Verdict,
-    BUFFER_BYTES, DEVICE_KEPT_BYTES, NONCE_BYTES,
+    allowed_digests, changes_nv, check, check_quote, check_version, events, replay, secure_boot, Attest, Bank, CodeName,
+    Device, Expected, Fault, LogFault, MeasuredPart, Nonce, Policy, Refusal, Replay, Required, Room, Selection,
+    Signature, Verdict, BUFFER_BYTES, DEVICE_KEPT_BYTES, NONCE_BYTES,
 };
 
 fn read(name: &str) -> Vec<u8> {
@@ -210,8 +210,9 @@ fn a_list_of_digests() {
         writeln!(lines, "sha256 {} {} words # a comment", it.register, digest(at)).unwrap();
     }
     let said = |text: &str| {
+        let allowed: Vec<_> = allowed_digests(text).map(Result::unwrap).collect();
         let mut expected = Expected::new(Nonce::Any, Required::Any, Bank::Sha256);
-        expected.allow = Some(Allowed::of(text).unwrap());
+        expected.allow = Some(&allowed);
         check(&log, &quote, &expected).unwrap()
     };
     let zeros = "0".repeat(64);
@@ -219,9 +220,34 @@ fn a_list_of_digests() {
     let unknown = Verdict::Unknown(Bank::Sha256, records[0].register, records[0].at);
     assert_eq!(said(&lines.replace(&digest(0), &zeros)), unknown);
     assert_eq!(said(&format!("sha256 9 {zeros}")), Verdict::Lacks(Bank::Sha256, 9));
-    for line in ["sha256 4", "md5 4 00", "sha256 4 0g"] {
-        assert_eq!(Allowed::of(&format!("# one\n{line}")).err(), Some(2));
+    for line in ["sha256 4", "md5 4 00", "sha256 4 0g", &format!("sha256 24 {zeros}"), &format!("sha256 4 {zeros}0")] {
+        assert_eq!(allowed_digests(&format!("# one\n{line}")).collect::<Vec<_>>(), [Err(2)]);
     }
+}
+
+// A text where its data were measured, or what is behind a prefix; a variable where all of it was.
+#[test]
+fn texts_and_variables_that_are_vouched() {
+    let quote = read("quotes/ecc-sha256.msg");
+    let attest = Attest::decode(&quote).unwrap();
+    let mut count = (0, 0);
+    for (log, bank) in [("logs/measured.log", Bank::Sha256), ("quotes/17-ovmf-secureboot.log", Bank::Sha256)] {
+        for it in events(&read(log)).map(Result::unwrap) {
+            let part = it.vouched(&attest, bank);
+            let is_text = matches!(part, Some(MeasuredPart::Data | MeasuredPart::Text));
+            assert_eq!(it.vouched_text(&attest, bank), it.text().filter(|_| is_text));
+            let found = it.vouched_variable(&attest, bank);
+            match part {
+                Some(MeasuredPart::Data) => assert_eq!(found, it.variable()),
+                Some(MeasuredPart::Cut) => assert!(found.is_none() || it.variable().is_none()),
+                _ => assert_eq!(found, None),
+            }
+            assert_eq!(it.vouched_text(&attest, Bank::Sha1), None);
+            count.0 += usize::from(it.vouched_text(&attest, bank).is_some());
+            count.1 += usize::from(found.is_some());
+        }
+    }
+    assert!(count.0 > 0 && count.1 > 0);
 }
 
 #[test]

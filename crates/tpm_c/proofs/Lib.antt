@@ -1,3 +1,4 @@
+pub mod Allowing
 pub mod Decoding
 pub mod Held
 pub mod HeldReplies

@@ -20,6 +20,13 @@ answer_names =
     named (kind_number kinds.BadRegister) (codes "BadRegister") ∷
     named (kind_number kinds.BadLocality) (codes "BadLocality") ∷
     named (kind_number kinds.LateLocality) (codes "LateLocality") ∷
+    named 16 (codes "digest differs") ∷
+    named 17 (codes "quote refused") ∷
+    named 18 (codes "no bank") ∷
+    named 19 (codes "nonce differs") ∷
+    named 20 (codes "selection lacks") ∷
+    named 21 (codes "selects nothing") ∷
+    named 22 (codes "requirement refused") ∷
     named (state_number states.On) (codes "on") ∷
     named (state_number states.Off) (codes "off") ∷
     named (state_number states.Unset) (codes "unset") ∷

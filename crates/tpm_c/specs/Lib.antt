@@ -1,3 +1,4 @@
+pub mod Allowed
 pub mod Builds
 pub mod Callers
 pub mod Calls

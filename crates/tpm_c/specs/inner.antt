@@ -1,4 +1,5 @@
 -- Definitions that serve proofs alone: no contract that is handed out names them.
+pub mod Allowed
 pub mod Builds
 pub mod KeptDevices
 pub mod Logs

@@ -9,8 +9,8 @@ use crate::handed::put_in_room;
 use tpm_output::named::{Named, look_up};
 use tpm_output::names;
 
-// The faults of a log, the states of Secure Boot, and why none is told.
-const NAMES: [Named; 26] = names![
+// The faults of a log, what is said of a quote, the states of Secure Boot, and why none is told.
+const NAMES: [Named; 33] = names![
     1 "Truncated",
     2 "TooLong",
     3 "NotCryptoAgile",
@@ -22,6 +22,13 @@ const NAMES: [Named; 26] = names![
     9 "BadRegister",
     10 "BadLocality",
     11 "LateLocality",
+    16 "digest differs",
+    17 "quote refused",
+    18 "no bank",
+    19 "nonce differs",
+    20 "selection lacks",
+    21 "selects nothing",
+    22 "requirement refused",
     48 "on",
     49 "off",
     50 "unset",
@@ -39,9 +46,10 @@ const NAMES: [Named; 26] = names![
     75 "NoSecureBoot",
 ];
 
-/// Writes the name of what a call on a log answered, a log's fault, a state of Secure Boot or why none is told, as
-/// `Truncated`, `on` or `NotMeasured`, to the beginning of `out`, and says how many bytes it has. It answers 0, and
-/// nothing is written, for any other answer and where there is less room.
+/// Writes the name of what a call on a log or a quote answered, a log's fault, what is wrong with the quote, a state of
+/// Secure Boot or why none is told, as `Truncated`, `nonce differs`, `on` or `NotMeasured`, to the beginning of `out`,
+/// and says how many bytes it has. It answers 0, and nothing is written, for any other answer and where there is less
+/// room.
 #[unsafe(no_mangle)]
 pub extern "C" fn tpm_log_answer_name(answer: u32, out: &mut [u8]) -> usize
     ensures { IsIn (in_room (length out.old) (option_map (λ n. n.name) (named_in answer_names answer)))

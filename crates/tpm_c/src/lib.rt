@@ -1,6 +1,7 @@
 //! The library for C: each function works in memory that the caller hands in.
 #![tactic(auto)]
 
+mod allowed;
 mod answer_name;
 mod attest;
 mod builder;
@@ -28,6 +29,7 @@ mod signature;
 mod variable;
 mod vouched;
 
+pub use allowed::{TpmAllowed, tpm_log_allowed};
 pub use answer_name::tpm_log_answer_name;
 pub use attest::{TpmAttest, TpmAttestFault, tpm_attest_decode, tpm_log_check_attest};
 pub use builder::tpm_command_build;

@@ -32,6 +32,7 @@ use tpm_options::CheckOptions;
 use tpm_output::answer::write;
 use tpm_output::fault::ToolFault;
 use tpm_output::status::Status;
+use tpm_output::written::put;
 use tpm_wire::Source;
 
 /// Prints the fault of a log, and the status where it is told.
@@ -56,10 +57,8 @@ fn print_ok<W: Write>(json: bool, status: Status, out: &mut W) -> Result<Status,
         × Appends (W.contents out.old) (W.contents out.new) (ok_text json status)) }
     ensures err { FailsByMemoryOrWrite result }
 {
-    match out.write_all(ok_text(json, status).as_bytes()) {
-        Ok(()) => Ok(status),
-        Err(_) => Err(ToolFault::Write),
-    }
+    put(out, ok_text(json, status))?;
+    Ok(status)
 }
 
 fn print_registers<W: Write>(

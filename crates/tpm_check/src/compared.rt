@@ -26,6 +26,7 @@ use tpm_output::fault::ToolFault;
 use tpm_output::input_lines::{LineSink, take_lines};
 use tpm_output::status::Status;
 use tpm_output::text::Pushed;
+use tpm_output::written::put;
 use tpm_wire::Source;
 
 /// How many bytes a list has at most.
@@ -167,10 +168,8 @@ impl Comparing<'_> {
             (no_register_text json self.now.any)) }
         ensures err { FailsByMemoryOrWrite result }
     {
-        match out.write_all(no_register_text(json, self.any).as_bytes()) {
-            Ok(()) => Ok(status_behind(self.status, self.any)),
-            Err(_) => Err(ToolFault::Write),
-        }
+        put(out, no_register_text(json, self.any))?;
+        Ok(status_behind(self.status, self.any))
     }
 }
 

@@ -9,8 +9,10 @@ ghost use Rattle.tpm_device.specs.Stands.{holds};
 ghost use Rattle.tpm_device.specs.inner.Actions.{acted, step_of, Steps};
 
 use crate::device::Device;
-use crate::handles::{bind, by, first_index, policy, register, register_or_null, second_index};
-use tpm_commands::{Params, ReplyBody, StartAuth};
+use tpm_commands::{
+    Params, ReplyBody, StartAuth, bind_in, first_handle, index_in, nv_auth_in, pcr_or_null_in,
+    policy_in, register_in, second_handle,
+};
 use tpm_wire::Duplicate;
 
 impl Device {
@@ -32,14 +34,16 @@ impl Device {
             self.new.sessions ≡ self.old.sessions }
         ensures refused { OnErr result (self.new ≡ self.old) }
     {
+        let first = first_handle(handles);
+        let second = second_handle(handles);
         match params {
             Params::Startup(kind) => self.start(*kind, body),
             Params::PcrExtend(digests) => {
                 *body = ReplyBody::PcrExtend;
-                self.extend(register_or_null(handles), digests)
+                self.extend(pcr_or_null_in(first), digests)
             }
-            Params::PcrEvent(event) => self.event(register_or_null(handles), event, body),
-            Params::PcrReset => self.reset(register(handles), body),
+            Params::PcrEvent(event) => self.event(pcr_or_null_in(first), event, body),
+            Params::PcrReset => self.reset(register_in(first), body),
             Params::PcrRead(selections) => {
                 self.read_registers(selections, body);
                 Ok(())
@@ -51,7 +55,7 @@ impl Device {
                 auth_hash,
             } => {
                 let start = StartAuth {
-                    bind: bind(handles),
+                    bind: bind_in(second),
                     nonce_caller: nonce_caller.duplicate(),
                     session_type: *session_type,
                     symmetric: *symmetric,
@@ -65,22 +69,22 @@ impl Device {
                 selections,
             } => {
                 *body = ReplyBody::PolicyPcr;
-                self.policy_pcr(policy(handles), pcr_digest, selections)
+                self.policy_pcr(policy_in(first), pcr_digest, selections)
             }
-            Params::PolicyOr(digests) => self.policy_or(policy(handles), digests, body),
+            Params::PolicyOr(digests) => self.policy_or(policy_in(first), digests, body),
             Params::PolicyCommandCode(code) => {
-                self.policy_command_code(policy(handles), *code, body)
+                self.policy_command_code(policy_in(first), *code, body)
             }
-            Params::PolicyAuthValue => self.policy_auth_value(policy(handles), body),
-            Params::PolicyRestart => self.policy_restart(policy(handles), body),
-            Params::PolicyGetDigest => self.policy_digest(policy(handles), body),
+            Params::PolicyAuthValue => self.policy_auth_value(policy_in(first), body),
+            Params::PolicyRestart => self.policy_restart(policy_in(first), body),
+            Params::PolicyGetDigest => self.policy_digest(policy_in(first), body),
             Params::NvDefineSpace { auth, public } => self.define(auth, public, body),
-            Params::NvUndefineSpace => self.undefine(second_index(handles), body),
-            Params::NvIncrement => self.increment(by(handles), second_index(handles), body),
+            Params::NvUndefineSpace => self.undefine(index_in(second), body),
+            Params::NvIncrement => self.increment(nv_auth_in(first), index_in(second), body),
             Params::NvRead { size, offset } => {
-                self.read_counter(by(handles), second_index(handles), *size, *offset, body)
+                self.read_counter(nv_auth_in(first), index_in(second), *size, *offset, body)
             }
-            Params::NvReadPublic => self.read_public(first_index(handles), body),
+            Params::NvReadPublic => self.read_public(index_in(first), body),
         }
     }
 }

@@ -12,11 +12,10 @@ ghost use Rattle.tpm_device.specs.inner.Performing.{MayBePerformed, IsPerformed}
 
 use crate::authorization::Authorization;
 use crate::device::Device;
-use crate::handles::policy;
 use crate::reading::read_params;
 use crate::response::ResponseBuffer;
 use tpm_buffer::Areas;
-use tpm_commands::Params;
+use tpm_commands::{Params, first_handle, policy_in};
 use tpm_types::{Digest, Selections};
 
 // The digest and the registers that are asserted, or the code of the parameters' first fault.
@@ -60,7 +59,8 @@ impl Device {
             (record { result = result; device = self.new; out = out.new }) }
     {
         let asserted = asserted_in(areas)?;
-        self.policy_pcr(policy(areas.handles()), &asserted.0, &asserted.1)?;
+        let session = policy_in(first_handle(areas.handles()));
+        self.policy_pcr(session, &asserted.0, &asserted.1)?;
         self.put_bare(areas, by, nonce, out);
         self.roll(by, nonce);
         Ok(())

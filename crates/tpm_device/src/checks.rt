@@ -1,7 +1,6 @@
 //! The checks before a command's authorization, but those by the grammar.
 
-ghost use Rattle.std.specs.Prelude.{◌≡◌, ◌≤◌, length, is_some};
-ghost use Rattle.tpm_model.specs.Sessions.{loaded};
+ghost use Rattle.std.specs.Prelude.{◌≡◌, ◌≤◌, length};
 ghost use Rattle.tpm_model.specs.Answers.{check_started as started_of, check_handle as handle_of};
 ghost use Rattle.tpm_model.specs.Answers.{check_handles as handles_of, check_tag as tag_of};
 ghost use Rattle.tpm_device.specs.Stands.{holds};
@@ -9,7 +8,7 @@ ghost use Rattle.tpm_device.specs.Stands.{holds};
 use crate::device::Device;
 use tpm_buffer::{NO_SESSIONS, SESSIONS};
 use tpm_commands::CommandTable;
-use tpm_types::{CommandCode, NvIndex, PolicyHandle, SessionHandle};
+use tpm_types::{CommandCode, NvIndex, PolicyHandle};
 use tpm_wire::response_code::{
     AUTH_CONTEXT, AUTH_MISSING, HANDLE, INITIALIZE, REFERENCE_H0, of_handle,
 };
@@ -40,24 +39,17 @@ pub(crate) fn check_tag(code: CommandCode, tag: u16) -> Result<(), u32>
 }
 
 impl Device {
-    // Whether the handle is that of a session that is loaded.
-    fn is_loaded(&self, handle: u32) -> bool
-        ensures { result ≡ is_some (loaded (holds self.now).sessions handle) }
-    {
-        match SessionHandle::from_number(handle) {
-            Some(session) => self.sessions.get(session).is_some(),
-            None => false,
-        }
-    }
-
     // REFERENCE_H0 for a handle of a policy session that is not loaded, HANDLE for that of an index
     // that is not defined.
     fn check_handle(&self, number: u32, handle: u32) -> Result<(), u32>
         requires { number ≤ 2 }
         ensures { result ≡ handle_of (holds self.now) number handle }
     {
-        if PolicyHandle::from_number(handle).is_some() && !self.is_loaded(handle) {
-            return Err(REFERENCE_H0 + number - 1);
+        if let Some(session) = PolicyHandle::from_number(handle) {
+            return match self.sessions.policy(session) {
+                Some(_) => Ok(()),
+                None => Err(REFERENCE_H0 + number - 1),
+            };
         }
         if let Some(index) = NvIndex::from_number(handle) {
             if self.counters.definition(index).is_none() {

@@ -1,23 +1,20 @@
 //! TPM2_PCR_Extend from its parameters to its reply. Neither goes through the room of the longest, which would be
 //! filled to its end: the command takes 1.11 times its hashes (docs/SPEED.md).
 
-ghost use Rattle.std.specs.Prelude.{◌≡◌, ◌≤◌, length, Ok, Err};
+ghost use Rattle.std.specs.Prelude.{◌≡◌, ◌≤◌, length};
 ghost use Rattle.tpm_wire.specs.Reading.{read_all, Gives};
 ghost use Rattle.tpm_types.specs.declared.command_code.CommandCode.TheVariants as codes;
 ghost use Rattle.tpm_commands.specs.declared.command_parameters.Params.TheVariants as of_command;
 ghost use Rattle.tpm_commands.specs.Parameters.{parameters};
-ghost use Rattle.tpm_buffer.specs.Commands.{body_from};
 ghost use Rattle.tpm_model.specs.Answers.{performed as performed_of};
 ghost use Rattle.tpm_device.specs.Stands.{holds};
 ghost use Rattle.tpm_device.specs.inner.Performing.{MayBePerformed, IsPerformed};
-ghost use Rattle.tpm_device.specs.inner.Actions.{done_of};
 
 use crate::authorization::Authorization;
 use crate::device::Device;
-use crate::handles::register_or_null;
 use crate::response::ResponseBuffer;
 use tpm_buffer::Areas;
-use tpm_commands::read_pcr_extend;
+use tpm_commands::{first_handle, pcr_or_null_in, read_pcr_extend};
 use tpm_types::DigestValues;
 use tpm_wire::response_code::SIZE;
 use tpm_wire::{Cursor, Refusal};
@@ -40,30 +37,6 @@ fn decode_digests(bytes: &[u8], digests: &mut DigestValues) -> Result<(), Refusa
 }
 
 impl Device {
-    // As `done`, of these digests.
-    #[inline(always)]
-    fn done_extending(
-        &mut self,
-        areas: &Areas<'_>,
-        by: &Option<Authorization<'_>>,
-        digests: &DigestValues,
-        nonce: &[u8; 64],
-        out: &mut ResponseBuffer,
-    ) -> Result<(), u32>
-        requires extends { areas.now.header.code ≡ codes.PcrExtend }
-        requires ready { MayBePerformed self.old areas.now by.now out.old }
-        ensures { IsPerformed areas.now
-            (λ x. done_of (holds self.old) nonce.now x
-            (body_from areas.now.handles (of_command.PcrExtend digests.now)))
-            (record { device = self.old; nonce = nonce.now; out = out.old })
-            (record { result = result; device = self.new; out = out.new }) }
-    {
-        self.extend(register_or_null(areas.handles()), digests)?;
-        self.put_bare(areas, by, nonce, out);
-        self.roll(by, nonce);
-        Ok(())
-    }
-
     /// As `performed_by_action`, where the command is TPM2_PCR_Extend.
     #[inline(never)]
     pub(crate) fn performed_extending(
@@ -81,8 +54,13 @@ impl Device {
     {
         let mut digests = DigestValues::default();
         match decode_digests(areas.params(), &mut digests) {
-            Ok(()) => self.done_extending(areas, by, &digests, nonce, out),
-            Err(refusal) => Err(refusal.code),
+            Ok(()) => {}
+            Err(refusal) => return Err(refusal.code),
         }
+        let register = pcr_or_null_in(first_handle(areas.handles()));
+        self.extend(register, &digests)?;
+        self.put_bare(areas, by, nonce, out);
+        self.roll(by, nonce);
+        Ok(())
     }
 }

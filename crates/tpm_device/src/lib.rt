@@ -8,7 +8,6 @@ mod bare;
 mod checks;
 mod device;
 mod extending;
-mod handles;
 mod kept;
 mod laws;
 mod nv;

@@ -19,10 +19,9 @@ ghost use Rattle.tpm_device.specs.inner.Answers.{Replies};
 
 use crate::authorization::Authorization;
 use crate::device::Device;
-use crate::handles::bind;
 use crate::response::ResponseBuffer;
 use tpm_buffer::Areas;
-use tpm_commands::{ReplyBody, StartAuth, StartReply, decode_start_into};
+use tpm_commands::{ReplyBody, StartAuth, StartReply, bind_in, decode_start_into, second_handle};
 use tpm_types::{Alg, Nonce, SessionType, SymDef};
 
 // What a session is to be started with, or the code of the parameters' first fault.
@@ -36,7 +35,7 @@ fn start_in(areas: &Areas<'_>) -> Result<StartAuth, u32>
         × (fault.code ≡ code)) }
 {
     let mut start = StartAuth {
-        bind: bind(areas.handles()),
+        bind: bind_in(second_handle(areas.handles())),
         nonce_caller: Nonce::default(),
         session_type: SessionType::Hmac,
         symmetric: SymDef::Null,

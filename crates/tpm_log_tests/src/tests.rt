@@ -11,5 +11,6 @@ mod log_pieces;
 mod log_sources;
 mod quote_attests;
 mod quote_quotes;
+mod rows;
 mod secure_boot_verdicts;
 mod vouched_records;

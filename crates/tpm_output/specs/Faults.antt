@@ -7,6 +7,6 @@ use Rattle.tpm_output.specs.declared.fault.ToolFault.{ToolFault}
 abbrev pub FailsByMemoryOrWrite : {X : Type 0} → Result X ToolFault → Type 0
 FailsByMemoryOrWrite (Ok x) = Unit {0}
 FailsByMemoryOrWrite (Err Memory) = Unit {0}
-FailsByMemoryOrWrite (Err Write) = Unit {0}
+FailsByMemoryOrWrite (Err (Write failed)) = Unit {0}
 FailsByMemoryOrWrite (Err Read) = ⊥
 FailsByMemoryOrWrite (Err InputTooLong) = ⊥

@@ -40,7 +40,7 @@ abbrev pub CountsRead : {X : Type 0} → ℕ → ℕ → Result X ToolFault → 
 CountsRead old new (Ok x) = new ≡ old
 CountsRead old new (Err Read) = new ≡ one_more old
 CountsRead old new (Err Memory) = new ≡ old
-CountsRead old new (Err Write) = new ≡ old
+CountsRead old new (Err (Write failed)) = new ≡ old
 CountsRead old new (Err InputTooLong) = new ≡ old
 
 -- ---- what is added

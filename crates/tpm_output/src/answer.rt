@@ -10,6 +10,7 @@ ghost use Rattle.tpm_output.specs.Text.{not_hexadecimal_line};
 use crate::fault::ToolFault;
 use crate::status::Status;
 use crate::text::push_refusal;
+use crate::written::put;
 use std::alloc::{AllocError, Global};
 use std::io::Write;
 use tpm_wire::Refusal;
@@ -90,7 +91,8 @@ pub fn write<W: Write>(out: &mut W, text: &String) -> Result<(), ToolFault>
     ensures err { FailsByMemoryOrWrite result }
     ensures memory { IsErrOf result Memory → ⊥ }
 {
-    out.write_all(text.as_bytes()).map_err(|_| ToolFault::Write)
+    put(out, text.as_str())?;
+    Ok(())
 }
 
 /// Prints that a word is not hexadecimal.

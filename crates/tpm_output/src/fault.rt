@@ -1,8 +1,9 @@
 //! What keeps a subcommand from its answer.
 
 ghost use Rattle.std.specs.Prelude.{◌≡◌};
-ghost use Rattle.tpm_output.specs.declared.fault.ToolFault.TheVariants.{Memory, Read};
+ghost use Rattle.tpm_output.specs.declared.fault.ToolFault.TheVariants.{Memory, Read, Write};
 
+use crate::written::WriteFailed;
 use std::alloc::AllocError;
 use thiserror::Error;
 use tpm_wire::ReadFailed;
@@ -19,7 +20,7 @@ pub enum ToolFault {
     Read,
     /// A write failed.
     #[error("writing failed")]
-    Write,
+    Write(WriteFailed),
     /// A script or a list of registers has more than 16,777,216 bytes, or a capture more than 2^62.
     #[error("input too long")]
     InputTooLong,
@@ -38,5 +39,13 @@ impl From<ReadFailed> for ToolFault {
 
     fn from(_: ReadFailed) -> ToolFault {
         ToolFault::Read
+    }
+}
+
+impl From<WriteFailed> for ToolFault {
+    ghost from_gives = { λ failed fault. fault ≡ Write failed };
+
+    fn from(failed: WriteFailed) -> ToolFault {
+        ToolFault::Write(failed)
     }
 }

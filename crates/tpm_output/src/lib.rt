@@ -24,3 +24,4 @@ pub mod tell;
 pub mod teller;
 pub mod text;
 pub mod values;
+pub mod written;

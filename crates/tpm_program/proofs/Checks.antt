@@ -74,7 +74,7 @@ pub at_reading : (offered : Offered) (path : List ℕ) (tool : ToolFault) (fault
 at_reading offered path Read (File at cause) opened k h = (h.0, inr (opened, h.1))
 at_reading offered path Read (Tool tool) opened k h = absurd h
 at_reading offered path Memory fault opened k h = subst (FailsAt offered path) (sym h) tt
-at_reading offered path Write fault opened k h = subst (FailsAt offered path) (sym h) tt
+at_reading offered path (Write failed) fault opened k h = subst (FailsAt offered path) (sym h) tt
 at_reading offered path InputTooLong fault opened k h = absurd (k refl)
 
 -- the files, by their paths
@@ -102,7 +102,7 @@ module _ (offered : Offered) (log : Bor (List ℕ)) (allow : Option (Bor (List �
   quote_not_read None attest (File at cause) P opened list h = inr (opened, inl h)
   quote_not_read (Some path) attest (File at cause) P opened list h = inr (opened, inr (opened_if offered path P list, inl h))
   quote_not_read registers attest (Tool Memory) P opened list h = tt
-  quote_not_read registers attest (Tool Write) P opened list h = tt
+  quote_not_read registers attest (Tool (Write failed)) P opened list h = tt
   quote_not_read registers attest (Tool Read) P opened list h = absurd h
   quote_not_read registers attest (Tool InputTooLong) P opened list h = absurd h
 
@@ -130,7 +130,7 @@ module _ (offered : Offered) (log : Bor (List ℕ)) (allow : Option (Bor (List �
   not_checked failures registers attest Read fault P opened list k h = last_not_read failures registers attest fault P opened list h
   not_checked failures registers attest Memory fault P opened list k h =
       subst (Fails offered (Check (files log registers attest allow) o)) (sym h) tt
-  not_checked failures registers attest Write fault P opened list k h =
+  not_checked failures registers attest (Write failed) fault P opened list k h =
       subst (Fails offered (Check (files log registers attest allow) o)) (sym h) tt
   not_checked failures registers attest InputTooLong fault P opened list k h =
       subst (Fails offered (Check (files log registers attest allow) o)) (sym h) (k refl)
@@ -150,7 +150,7 @@ module _ (offered : Offered) (log : Bor (List ℕ)) (o : CheckOptions) (P : Opti
   list_not_read (Some path) (Some attest) allow (File at cause) opened list quote h =
       inr (opened, inr (opened_if offered path P list, inr (of_opened offered attest Q quote, inl h)))
   list_not_read registers attest allow (Tool Memory) opened list quote h = tt
-  list_not_read registers attest allow (Tool Write) opened list quote h = tt
+  list_not_read registers attest allow (Tool (Write failed)) opened list quote h = tt
   list_not_read registers attest allow (Tool Read) opened list quote h = absurd h
   list_not_read registers attest allow (Tool InputTooLong) opened list quote h = absurd h
 
@@ -178,7 +178,7 @@ module _ (offered : Offered) (log : Bor (List ℕ)) (registers : Option Register
       → Fails offered (Events log registers places digests event-data json attest o) (Tool tool)
   no_other tool None h = absurd h
   no_other Memory (Some path) h = tt
-  no_other Write (Some path) h = tt
+  no_other (Write failed) (Some path) h = tt
   no_other Read (Some path) h = absurd h
   no_other InputTooLong (Some path) h = absurd h
 
@@ -193,5 +193,5 @@ module _ (offered : Offered) (log : Bor (List ℕ)) (registers : Option Register
   not_listed Read (File at cause) opened k h = inl (h.0, inr (opened, h.1))
   not_listed Read (Tool tool) opened k h = absurd h
   not_listed Memory fault opened k h = subst (Fails offered (Events log registers places digests event-data json attest o)) (sym h) tt
-  not_listed Write fault opened k h = subst (Fails offered (Events log registers places digests event-data json attest o)) (sym h) tt
+  not_listed (Write failed) fault opened k h = subst (Fails offered (Events log registers places digests event-data json attest o)) (sym h) tt
   not_listed InputTooLong fault opened k h = absurd (k refl)

@@ -1,5 +1,5 @@
 -- How the program ends: its status, and what it writes on each stream (this profile).
-use Rattle.std.specs.Prelude.{◌≡◌, ◌⊎◌, ◌++◌, ℕ, Bool, true, List, [], ◌∷◌, Option, codes, string_bytes}
+use Rattle.std.specs.Prelude.{◌≡◌, ◌⊎◌, ◌++◌, ℕ, List, [], ◌∷◌, OnOk, Option, Result, codes, string_bytes}
 use Rattle.std.specs.Io.KnownBytes.{Appends}
 use Rattle.std.specs.declared.io.ErrorKind.TheVariants.{OutOfMemory}
 use Rattle.std.specs.declared.io.ErrorKind.{ErrorKind}
@@ -8,6 +8,7 @@ use Rattle.clap.specs.Words.{Text, subcommand_of}
 use Rattle.tpm_output.specs.declared.status.Status.{Status}
 use Rattle.tpm_output.specs.declared.fault.ToolFault.TheVariants as faults
 use Rattle.tpm_output.specs.Status.{status_number}
+use Rattle.tpm_output.specs.declared.written.WriteFailed.{WriteFailed}
 use Rattle.tpm_args.specs.declared.stop.Stop.TheVariants.{Help, Usage, Memory}
 use Rattle.tpm_args.specs.declared.stop.Stop.{Stop}
 use Rattle.tpm_args.specs.declared.task.Task.TheVariants.{Build}
@@ -37,9 +38,13 @@ pub record Streams : Type 0 where
 abbrev pub Prints : Streams → List ℕ → Type 0
 Prints s text = Appends s.out s.out-behind text × (s.errors-behind ≡ s.errors)
 
--- The text is on standard error, where that took it.
-abbrev pub Tells : Streams → (told : Bool) → List ℕ → Type 0
-Tells s told text = told ≡ true → Appends s.errors s.errors-behind text
+-- whether standard error took what was to be told there
+abbrev pub Written : Type 0
+Written = Result (Unit {0}) WriteFailed
+
+-- The text is on standard error, where no write there failed.
+abbrev pub Tells : Streams → Written → List ℕ → Type 0
+Tells s written text = OnOk written (Appends s.errors s.errors-behind text)
 
 -- the line of standard error that tells a fault
 abbrev pub fault_line : Fault → List ℕ
@@ -62,10 +67,10 @@ Remarks (Build name handles sessions parameters) remark =
     }) remark
 Remarks _ remark = remark ≡ []
 
--- Nothing is on standard error, or the remark, where that took it.
-abbrev pub IsRemarked : (remark : List ℕ) → (told : Bool) → (old new : Option (List ℕ)) → Type 0
-IsRemarked [] told old new = new ≡ old
-IsRemarked (first ∷ others) told old new = told ≡ true → Appends old new (first ∷ others)
+-- Nothing is on standard error, or the remark, where no write there failed.
+abbrev pub IsRemarked : (remark : List ℕ) → Written → (old new : Option (List ℕ)) → Type 0
+IsRemarked [] written old new = new ≡ old
+IsRemarked (first ∷ others) written old new = OnOk written (Appends old new (first ∷ others))
 
 -- The task has an answer, which is on standard output, with its status and what is told beside it; or it fails, and the
 -- status is 3.
@@ -73,19 +78,19 @@ abbrev pub EndsFor : Offered → Task → Streams → Ended → Type 0
 EndsFor offered task s ended =
     ((status : Status) × (text : List ℕ) × (remark : List ℕ) × Performs offered task status text × Remarks task remark
     × (ended.status ≡ status_number status)
-    × Appends s.out s.out-behind text × IsRemarked remark ended.told s.errors s.errors-behind)
-    ⊎ ((fault : Fault) × Fails offered task fault × (ended.status ≡ 3) × Tells s ended.told (fault_line fault))
+    × Appends s.out s.out-behind text × IsRemarked remark ended.written s.errors s.errors-behind)
+    ⊎ ((fault : Fault) × Fails offered task fault × (ended.status ≡ 3) × Tells s ended.written (fault_line fault))
 
 -- ---- words that ask for none
 
--- Help is on standard output, and the status is 0, or 3 where it isn't written; a usage fault is on standard error, and
--- the status is 2; and where memory is wanted it is 3.
+-- Help is on standard output, and the status is 0, or 3 where a write there failed; a usage fault is on standard error,
+-- and the status is 2; and where memory is wanted it is 3.
 abbrev pub EndsBy : Stop → Streams → Ended → Type 0
 EndsBy (Help text) s ended = ((ended.status ≡ 0) × Prints s (string_bytes text))
-    ⊎ ((ended.status ≡ 3) × Tells s ended.told (fault_line (Tool faults.Write)))
-EndsBy (Usage text) s ended = (ended.status ≡ 2) × (s.out-behind ≡ s.out) × Tells s ended.told (string_bytes text)
+    ⊎ ((failed : WriteFailed) × (ended.status ≡ 3) × Tells s ended.written (fault_line (Tool (faults.Write failed))))
+EndsBy (Usage text) s ended = (ended.status ≡ 2) × (s.out-behind ≡ s.out) × Tells s ended.written (string_bytes text)
 EndsBy Memory s ended =
-    (ended.status ≡ 3) × (s.out-behind ≡ s.out) × Tells s ended.told (fault_line (Tool faults.Memory))
+    (ended.status ≡ 3) × (s.out-behind ≡ s.out) × Tells s ended.written (fault_line (Tool faults.Memory))
 
 -- ---- any words
 

@@ -45,7 +45,8 @@ IsOpened offered path = (coming : Option (List ℕ)) × offered.opens path (Ok c
 
 -- A read of it failed.
 abbrev pub ReadFails : Offered → (path : List ℕ) → Cause → Type 0
-ReadFails offered path cause = (folder : Bool) × offered.is_folder path folder × (cause ≡ unread_cause folder)
+ReadFails offered path cause =
+    offered.fails × (folder : Bool) × offered.is_folder path folder × (cause ≡ unread_cause folder)
 
 -- The file at this path is not opened, or a read of it failed.
 abbrev pub IsUnread : Offered → (path : List ℕ) → Cause → Type 0
@@ -85,7 +86,7 @@ IsTooLong offered _ = ⊥
 -- answer isn't written.
 abbrev pub Fails : Offered → Task → Fault → Type 0
 Fails offered task (File path cause) = IsUnreadOf offered (files_of task) path.now cause
-Fails offered task (Tool Read) = ReadsInput task
+Fails offered task (Tool Read) = ReadsInput task × offered.fails
 Fails offered task (Tool InputTooLong) = IsTooLong offered task
 Fails offered task (Tool Memory) = Unit {0}
-Fails offered task (Tool Write) = Unit {0}
+Fails offered task (Tool (Write failed)) = Unit {0}

@@ -28,7 +28,7 @@ cause_text Other = codes "reading failed"
 abbrev pub tool_text : ToolFault → List ℕ
 tool_text Memory = codes "out of memory"
 tool_text Read = codes "reading failed"
-tool_text Write = codes "writing failed"
+tool_text (Write failed) = codes "writing failed"
 tool_text InputTooLong = codes "input too long"
 
 -- A control character, which a terminal would obey, is told by its number, in hexadecimal.

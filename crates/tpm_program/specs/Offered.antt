@@ -11,6 +11,8 @@ pub record Offered : Type 1 where
   pub stands : Option (List ℕ) → Type 0
   -- whether a path is a folder's
   pub is_folder : (path : List ℕ) → Bool → Type 0
+  -- A read of one of them failed.
+  pub fails : Type 0
 
 -- what opening gave, by the bytes that are to come of it
 abbrev pub coming_of : {S : Type 0} → (coming : S → Option (List ℕ)) → Result S Cause

@@ -113,8 +113,8 @@ abbrev pub ByAllow : (allow attest : Option (List ℕ)) → ((allow attest : Lis
 ByAllow (Some allow) (Some attest) P Q = P allow attest
 ByAllow _ _ P Q = Q
 
-abbrev pub PrintsBeside : Opened → (allow : Option (List ℕ)) → Status → List ℕ → Type 0
-PrintsBeside o allow status text =
+abbrev pub PrintsAllowed : Opened → (allow : Option (List ℕ)) → Status → List ℕ → Type 0
+PrintsAllowed o allow status text =
     ByAllow allow o.attest
     (λ allow attest. OfFirst most_read (λ bytes.
     ChecksAllowed o.options (record { attest = attest; allow = allow }) bytes status text) o.log)
@@ -125,7 +125,7 @@ abbrev pub PrintsAsked : Opened → (allow : Option (List ℕ)) → Status → L
 PrintsAsked o allow status text =
     ByFlag o.options.extends
     (OfFirst most_read (λ bytes. TellsExtends bytes status text) o.log)
-    (PrintsBeside o allow status text)
+    (PrintsAllowed o allow status text)
 
 -- This holds of what is read of a list of allowed digests, where it has a path.
 abbrev pub OfAllow : Offered → (path : Option (Bor (List ℕ))) → (Option (List ℕ) → Type 0) → Type 0

@@ -49,7 +49,7 @@ fn tool_text(fault: &ToolFault) -> &'static str
     match fault {
         ToolFault::Memory => "out of memory",
         ToolFault::Read => "reading failed",
-        ToolFault::Write => "writing failed",
+        ToolFault::Write(_) => "writing failed",
         ToolFault::InputTooLong => "input too long",
     }
 }

@@ -1,6 +1,7 @@
 //! Files that are opened, and what is told where reading them fails.
 
-ghost use Rattle.std.specs.Prelude.{◌≡◌, Ok, IfOk, IfErr, option_map};
+ghost use Rattle.std.specs.Prelude.{◌≡◌, ◌<◌, Ok, IfOk, IfErr, option_map};
+ghost use Rattle.tpm_output.specs.declared.fault.ToolFault.TheVariants.{Read};
 ghost use Rattle.tpm_program.specs.Offered.{OfFileIf};
 ghost use Rattle.tpm_program.specs.inner.Fails.{IsNotOpened, IsNotOpenedIf, IsOfReading};
 
@@ -14,6 +15,8 @@ pub(crate) fn opened<'a, I: Inputs>(inputs: &I, path: &'a str) -> Result<I::Sour
     ensures opened { IfOk result (λ source.
         (I.offers inputs.now).opens path.now (Ok (I.Source.coming source))) }
     ensures fresh { IfOk result (λ source. I.Source.failed source ≡ 0) }
+    ensures fails { (source : I.Source) → 0 < I.Source.failed source
+        → (I.offers inputs.now).fails }
     ensures err { IfErr result (λ fault. IsNotOpened (I.offers inputs.now) path.now fault) }
 {
     match inputs.open(path) {
@@ -37,17 +40,21 @@ pub(crate) fn opened_if<'a, I: Inputs>(
     }
 }
 
-/// The fault of a subcommand of whose files the one at this path was the last that was read.
+/// The fault of a subcommand of whose files the one at this path was the last that was read. Where it is `Read`, a read
+/// failed.
 pub(crate) fn of_reading<'a, I: Inputs>(inputs: &I, fault: ToolFault, path: &'a str) -> Fault<'a>
+    requires { fault ≡ Read → (I.offers inputs.now).fails }
     ensures { IsOfReading (I.offers inputs.now) path.now fault result }
 {
-    if fault != ToolFault::Read {
-        return Fault::Tool(fault);
+    match fault {
+        ToolFault::Read => {
+            let cause = if inputs.is_directory(path) {
+                Cause::Directory
+            } else {
+                Cause::Other
+            };
+            Fault::File { path, cause }
+        }
+        other => Fault::Tool(other),
     }
-    let cause = if inputs.is_directory(path) {
-        Cause::Directory
-    } else {
-        Cause::Other
-    };
-    Fault::File { path, cause }
 }

@@ -3,8 +3,9 @@
 ghost use Rattle.std.specs.Prelude.{◌≡◌, ℕ, List, IfErr, IfOk, IsErrOf, option_map};
 ghost use Rattle.std.specs.Io.KnownBytes.{Appends};
 ghost use Rattle.tpm_output.specs.declared.fault.ToolFault.TheVariants.{InputTooLong};
+ghost use Rattle.tpm_output.specs.InputLines.{CountsRead};
 ghost use Rattle.tpm_output.specs.Reads.{most_attest};
-ghost use Rattle.tpm_check.specs.Check.{ReadsTooMuchIfList};
+ghost use Rattle.tpm_check.specs.Check.{CountsReads, ReadsTooMuchIfList, failures_of};
 ghost use Rattle.tpm_events.specs.ListEvents.{most_read};
 ghost use Rattle.tpm_args.specs.declared.task.Task.TheVariants.{Check, CheckListed, Events, EventsHeader};
 ghost use Rattle.tpm_program.specs.Offered.{OfFile};
@@ -38,6 +39,7 @@ fn list_opened<S: Source, W: Write>(
     options: &CheckOptions<'_>,
     out: &mut W,
 ) -> Result<Status, ToolFault>
+    ensures failures { CountsRead (S.failed log.old) (S.failed log.new) result }
     ensures ok { IfOk result (λ status. (text : List ℕ)
         × OfFirst most_read (λ bytes. PrintsEvents (record {
           listing = listing.entry;
@@ -210,6 +212,12 @@ fn check_opened<S: Source, W: Write>(
     out: &mut W,
 ) -> Result<Status, ToolFault>
     requires { S.failed log.old ≡ 0 }
+    ensures failures { CountsReads (record {
+      log = S.failed log.old;
+      log-behind = S.failed log.new;
+      list = failures_of S.failed list.old;
+      list-behind = failures_of S.failed list.new;
+    }) result }
     ensures ok { IfOk result (λ status. (text : List ℕ)
         × PrintsChecked (record {
           log = S.coming log.old;
@@ -240,6 +248,12 @@ fn check_asked<S: Source, W: Write>(
     out: &mut W,
 ) -> Result<Status, ToolFault>
     requires { S.failed log.old ≡ 0 }
+    ensures failures { CountsReads (record {
+      log = S.failed log.old;
+      log-behind = S.failed log.new;
+      list = failures_of S.failed list.old;
+      list-behind = failures_of S.failed list.new;
+    }) result }
     ensures ok { IfOk result (λ status. (text : List ℕ)
         × PrintsAsked (record {
           log = S.coming log.old;

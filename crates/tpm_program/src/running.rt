@@ -1,6 +1,6 @@
 //! A run of the program, from its words to its status.
 
-ghost use Rattle.std.specs.Prelude.{◌≡◌, true, map, string_bytes};
+ghost use Rattle.std.specs.Prelude.{◌≡◌, OnOk, map, string_bytes};
 ghost use Rattle.std.specs.Io.KnownBytes.{Appends};
 ghost use Rattle.tpm_args.specs.declared.stop.Stop.TheVariants.{Help};
 ghost use Rattle.tpm_output.specs.Status.{status_number};
@@ -14,6 +14,7 @@ use std::alloc::Global;
 use std::io::{ErrorKind, Write};
 use tpm_args::{Stop, Task, Words, words_not_text};
 use tpm_output::fault::ToolFault;
+use tpm_output::written::{WriteFailed, put, put_line};
 
 /// The status of words at fault.
 const USAGE: u8 = 2;
@@ -21,22 +22,22 @@ const USAGE: u8 = 2;
 /// The status of a reading or writing fault, of want of memory and of input too long.
 const FAULT: u8 = 3;
 
-// Tells a fault, and answers whether it was taken.
-fn tells<E: Write>(errors: &mut E, fault: Fault<'_>) -> bool
-    ensures { result ≡ true
-        → Appends (E.contents errors.old) (E.contents errors.new) (fault_line fault.entry) }
+// Tells a fault.
+fn tells<E: Write>(errors: &mut E, fault: Fault<'_>) -> Result<(), WriteFailed>
+    ensures { OnOk result
+        (Appends (E.contents errors.old) (E.contents errors.new) (fault_line fault.entry)) }
 {
-    writeln!(errors, "{fault}").is_ok()
+    put_line(errors, fault)
 }
 
 fn failed<E: Write>(errors: &mut E, fault: Fault<'_>) -> Ended
     ensures status { result.status ≡ 3 }
-    ensures told { result.told ≡ true
-        → Appends (E.contents errors.old) (E.contents errors.new) (fault_line fault.entry) }
+    ensures written { OnOk result.written
+        (Appends (E.contents errors.old) (E.contents errors.new) (fault_line fault.entry)) }
 {
     Ended {
         status: FAULT,
-        told: tells(errors, fault),
+        written: tells(errors, fault),
     }
 }
 
@@ -48,12 +49,12 @@ fn helped<W: Write, E: Write>(out: &mut W, errors: &mut E, text: &String) -> End
       errors-behind = E.contents errors.new;
     }) result }
 {
-    match out.write_all(text.as_bytes()) {
+    match put(out, text.as_str()) {
         Ok(()) => Ended {
             status: 0,
-            told: true,
+            written: Ok(()),
         },
-        Err(_) => failed(errors, Fault::Tool(ToolFault::Write)),
+        Err(unwritten) => failed(errors, Fault::Tool(ToolFault::Write(unwritten))),
     }
 }
 
@@ -70,28 +71,31 @@ fn stopped<W: Write, E: Write>(out: &mut W, errors: &mut E, stop: &Stop) -> Ende
         Stop::Help(text) => helped(out, errors, text),
         Stop::Usage(text) => Ended {
             status: USAGE,
-            told: errors.write_all(text.as_bytes()).is_ok(),
+            written: put(errors, text.as_str()),
         },
         Stop::Memory => failed(errors, Fault::Tool(ToolFault::Memory)),
     }
 }
 
-// Tells a remark, where there is one, and answers whether it was taken.
-fn remarks<E: Write>(errors: &mut E, remark: &String) -> bool
+// Tells a remark, where there is one.
+fn remarks<E: Write>(errors: &mut E, remark: &String) -> Result<(), WriteFailed>
     ensures { IsRemarked (string_bytes remark.now) result (E.contents errors.old) (E.contents errors.new) }
 {
-    remark.is_empty() || errors.write_all(remark.as_bytes()).is_ok()
+    if remark.is_empty() {
+        return Ok(());
+    }
+    put(errors, remark.as_str())
 }
 
 // Ends with a task's answer.
 fn ends_with<E: Write>(errors: &mut E, answered: &Answered) -> Ended
     ensures status { result.status ≡ status_number answered.now.status }
-    ensures remark { IsRemarked (string_bytes answered.now.remark) result.told
+    ensures remark { IsRemarked (string_bytes answered.now.remark) result.written
         (E.contents errors.old) (E.contents errors.new) }
 {
     Ended {
         status: answered.status.number(),
-        told: remarks(errors, &answered.remark),
+        written: remarks(errors, &answered.remark),
     }
 }
 

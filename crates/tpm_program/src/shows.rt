@@ -3,6 +3,7 @@
 ghost use Rattle.std.specs.Prelude.{ℕ, List, Option, None, Some, IfOk, IfErr, IsErrOf};
 ghost use Rattle.std.specs.Io.KnownBytes.{Appends};
 ghost use Rattle.tpm_output.specs.declared.fault.ToolFault.TheVariants.{InputTooLong};
+ghost use Rattle.tpm_output.specs.InputLines.{CountsRead};
 ghost use Rattle.tpm_show.specs.Capture.{ReadsTooMuchCapture};
 ghost use Rattle.tpm_args.specs.declared.task.Task.TheVariants.{Run, ShowCapture, ShowNv, ShowPackets};
 ghost use Rattle.tpm_program.specs.Performs.{Performs, TellsFrames, form_of};
@@ -33,6 +34,7 @@ fn show_frames<S: Source, W: Write>(
     binary: bool,
     how: Telling,
 ) -> Result<Status, ToolFault>
+    ensures failures { CountsRead (S.failed input.old) (S.failed input.new) result }
     ensures ok { IfOk result (λ status. (text : List ℕ)
         × TellsFrames (form_of binary how) (S.coming input.old) status text
         × Appends (W.contents out.old) (W.contents out.new) text) }

@@ -14,7 +14,7 @@ use Rattle.tpm_model.specs.Premises.{NoCollision}
 use Rattle.tpm_model.proofs.Replay.{twice}
 use Rattle.tpm_device.proofs.Ran.{accepted}
 use Rattle.tpm_output.specs.InputLines.{onto_first, lines_of, most_bytes}
-use Rattle.tpm_script.specs.Script.{Line, Command, NotHexadecimal, line_of, nonce_of, events_from, script}
+use Rattle.tpm_script.specs.Script.{ScriptLine, Command, NotHexadecimal, line_of, nonce_of, events_from, script}
 
 -- A nonce begins with its number.
 begins : (k : ℕ) → take least_nonce (nonce_of k) ≡ to_be_bytes w128 k
@@ -29,13 +29,13 @@ differs k m less few = λ same.
     absurd (omega (arith, less, equal))
 
 -- no command from the m-th on has the nonce of an earlier one
-is_apart : (k m : ℕ) (lines : List Line) → k < m → m + length lines ≤ 256 ^ 16 → IsApart (nonce_of k) (nonces (events_from m lines))
+is_apart : (k m : ℕ) (lines : List ScriptLine) → k < m → m + length lines ≤ 256 ^ 16 → IsApart (nonce_of k) (nonces (events_from m lines))
 is_apart k m [] less few = tt
 is_apart k m (Command bytes ∷ lines) less few = (differs k m less (omega (arith, few)), is_apart k (m + 1) lines (omega (arith, less)) (omega (arith, few)))
 is_apart k m (NotHexadecimal ∷ lines) less few = tt
 is_apart k m (_ ∷ lines) less few = is_apart k m lines less (omega (arith, few))
 
-are_apart : (k : ℕ) (lines : List Line) → k + length lines ≤ 256 ^ 16 → AreApart (nonces (events_from k lines))
+are_apart : (k : ℕ) (lines : List ScriptLine) → k + length lines ≤ 256 ^ 16 → AreApart (nonces (events_from k lines))
 are_apart k [] few = tt
 are_apart k (Command bytes ∷ lines) few = (is_apart k (k + 1) lines (omega arith) (omega (arith, few)), are_apart (k + 1) lines (omega (arith, few)))
 are_apart k (NotHexadecimal ∷ lines) few = tt

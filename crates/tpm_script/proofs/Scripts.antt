@@ -9,7 +9,7 @@ use Rattle.tpm_model.specs.Steps.{History, Origin, PowerCycle}
 use Rattle.tpm_model.specs.Answers.{answer, next}
 use Rattle.tpm_model.specs.Runs.{Event, Given, Cycled, after, run}
 use Rattle.tpm_script.specs.declared.script.Run.{Run}
-use Rattle.tpm_script.specs.Script.{Line, Blank, Power, Command, NotHexadecimal, Script, line_of, nonce_of}
+use Rattle.tpm_script.specs.Script.{ScriptLine, Blank, Power, Command, NotHexadecimal, Script, line_of, nonce_of}
 use Rattle.tpm_script.specs.Script.{AreAnswered, IsRefusedIn, IsRefusedLine, IsUnrefused, events_from, script_from}
 use Rattle.tpm_script.specs.Script.{script, events_text, refused_text, script_text, status_for, ReadsNoFurther}
 use Rattle.tpm_script.specs.Script.{ReadsScript, ReadsTooMuch, most_digits}
@@ -28,16 +28,17 @@ use Rattle.tpm_output.specs.LineSinks.{LinesStart, StopsAt, TakesAll, TakesFrom,
 abbrev behind : List Event → Script → Script
 behind es s = record { events = es ++ s.events; refused = s.refused }
 
-script_from-more : (n k : ℕ) (l : Line) (ls : List Line) → l ≢ NotHexadecimal
+script_from-more : (n k : ℕ) (l : ScriptLine) (ls : List ScriptLine) → l ≢ NotHexadecimal
     → script_from n k (l ∷ ls) ≡ behind (events_from k (l ∷ [])) (script_from (n + 1) (next_command k l) ls)
 script_from-more n k NotHexadecimal ls f = absurd (f refl)
 script_from-more n k _ ls f = refl
 
-script_from-refused : (n k : ℕ) (l : Line) (ls : List Line) → l ≡ NotHexadecimal → script_from n k (l ∷ ls) ≡ record { events = []; refused = Some n }
+script_from-refused : (n k : ℕ) (l : ScriptLine) (ls : List ScriptLine) → l ≡ NotHexadecimal
+    → script_from n k (l ∷ ls) ≡ record { events = []; refused = Some n }
 script_from-refused n k l ls f = rw f refl
 
 -- What is behind a line that is refused makes no difference.
-script_from-cut : (n k : ℕ) (xs others : List Line) → script_from n k (xs ++ NotHexadecimal ∷ others) ≡ script_from n k (xs ++ NotHexadecimal ∷ [])
+script_from-cut : (n k : ℕ) (xs others : List ScriptLine) → script_from n k (xs ++ NotHexadecimal ∷ others) ≡ script_from n k (xs ++ NotHexadecimal ∷ [])
 script_from-cut n k [] others = refl
 script_from-cut n k (Blank ∷ xs) others = script_from-cut (n + 1) k xs others
 script_from-cut n k (Power ∷ xs) others = ap (behind (Cycled ∷ [])) (script_from-cut (n + 1) k xs others)
@@ -123,13 +124,13 @@ line_of-kept line = rw all_count (elim (cases_lt most_digits (length line)) [
 ])
 
 -- The bytes of the line make no difference to what comes of what was read of it.
-runs_to : (l : Line) (step : LineStep Run) (line : List ℕ) (new : Option Run) → RunsTo l step new → RunsTo l (record step { line = line }) new
+runs_to : (l : ScriptLine) (step : LineStep Run) (line : List ℕ) (new : Option Run) → RunsTo l step new → RunsTo l (record step { line = line }) new
 runs_to l step line (Some new) f = f
 runs_to l step line None f = f
 
 pub takes_kept : (step : LineStep Run) → Runs step → TakesKept digits Runs step
 takes_kept step f = λ line same.
-    runs_to (line_of line) step line step.new (subst (λ (l : Line). RunsTo l step step.new) (ap line_of (sym same) ∙ line_of-kept line) f)
+    runs_to (line_of line) step line step.new (subst (λ (l : ScriptLine). RunsTo l step step.new) (ap line_of (sym same) ∙ line_of-kept line) f)
 
 pub short : (goes_on : Bool) (n : ℕ) (old new : Run) (line text : List ℕ)
     → Runs (record { number = n; old = old; line = line; new = some_if goes_on new; text = text })
@@ -230,7 +231,7 @@ module _ (first : Run) where
       let stop = at.stops more in
       ap (λ (ls : List (List ℕ)). script_from 1 1 (map line_of ls)) stop.2
       ∙ ap (script_from 1 1) (map-append line_of (lines_of at.lines) (stop.0 ∷ stop.1)
-      ∙ ap (λ (l : Line). map line_of (lines_of at.lines) ++ l ∷ map line_of stop.1) stop.3.0)
+      ∙ ap (λ (l : ScriptLine). map line_of (lines_of at.lines) ++ l ∷ map line_of stop.1) stop.3.0)
       ∙ script_from-cut 1 1 (map line_of (lines_of at.lines)) (map line_of stop.1)
 
   pub reads_script : (old new : Option (List ℕ)) (r : Reading Run) → r.first ≡ first

@@ -15,17 +15,17 @@ use Rattle.tpm_output.specs.InputLines.{lines_of, HasNoFeed, AreEnded, most_byte
 
 -- ---- what a line asks for
 
-pub data Line : Type 0 where
-  Blank : Line
-  Power : Line
-  Command : (bytes : List ℕ) → Line
-  NotHexadecimal : Line
+pub data ScriptLine : Type 0 where
+  Blank : ScriptLine
+  Power : ScriptLine
+  Command : (bytes : List ℕ) → ScriptLine
+  NotHexadecimal : ScriptLine
 
 -- those of a buffer of 4,096 bytes
 abbrev pub most_digits : ℕ
 most_digits = 8192
 
-abbrev pub command_in : Option (List ℕ) → Line
+abbrev pub command_in : Option (List ℕ) → ScriptLine
 command_in (Some bytes) = Command bytes
 command_in None = NotHexadecimal
 
@@ -34,7 +34,7 @@ abbrev pub is_skipped : List ℕ → Bool
 is_skipped [] = true
 is_skipped (first ∷ rest) = first == 35
 
-abbrev pub line_of : List ℕ → Line
+abbrev pub line_of : List ℕ → ScriptLine
 line_of text =
     if nat_lt most_digits (length text) then NotHexadecimal
     else if is_skipped text then Blank
@@ -89,7 +89,7 @@ abbrev pub nonce_of : ℕ → List ℕ
 nonce_of k = let number = to_be_bytes w128 k in number ++ (number ++ (number ++ number))
 
 -- Of these lines the first command is the k-th.
-abbrev pub events_from : ℕ → List Line → List Event
+abbrev pub events_from : ℕ → List ScriptLine → List Event
 events_from k [] = []
 events_from k (Blank ∷ lines) = events_from k lines
 events_from k (Power ∷ lines) = Cycled ∷ events_from k lines
@@ -97,12 +97,12 @@ events_from k (Command bytes ∷ lines) = Given bytes (nonce_of k) ∷ events_fr
 events_from k (NotHexadecimal ∷ lines) = []
 
 -- Of these lines the first has number n.
-abbrev pub refused_from : ℕ → List Line → Option ℕ
+abbrev pub refused_from : ℕ → List ScriptLine → Option ℕ
 refused_from n [] = None
 refused_from n (NotHexadecimal ∷ lines) = Some n
 refused_from n (_ ∷ lines) = refused_from (n + 1) lines
 
-abbrev pub script_from : (n k : ℕ) → List Line → Script
+abbrev pub script_from : (n k : ℕ) → List ScriptLine → Script
 script_from n k lines = record { events = events_from k lines; refused = refused_from n lines }
 
 abbrev pub script : List ℕ → Script

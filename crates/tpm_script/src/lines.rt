@@ -12,7 +12,7 @@ pub(crate) const MOST_DIGITS: usize = 8192;
 
 /// What a line of a script asks for.
 #[derive(Drop)]
-pub(crate) enum Line {
+pub(crate) enum ScriptLine {
     /// Nothing: the empty line, or a comment.
     Blank,
     /// A power cycle.
@@ -33,21 +33,21 @@ fn is_skipped(text: &[u8]) -> bool
 }
 
 /// What this line asks for.
-pub(crate) fn read_line(alloc: Global, text: &[u8]) -> Result<Line, AllocError>
+pub(crate) fn read_line(alloc: Global, text: &[u8]) -> Result<ScriptLine, AllocError>
     ensures { IfOk result (λ line. read_as line ≡ line_of text.now) }
 {
     if text.len() > MOST_DIGITS {
-        return Ok(Line::NotHexadecimal);
+        return Ok(ScriptLine::NotHexadecimal);
     }
     if is_skipped(text) {
-        return Ok(Line::Blank);
+        return Ok(ScriptLine::Blank);
     }
     if text == b"power".as_slice() {
-        return Ok(Line::Power);
+        return Ok(ScriptLine::Power);
     }
     match decoded(alloc, text)? {
-        Some(bytes) => Ok(Line::Command(bytes)),
-        None => Ok(Line::NotHexadecimal),
+        Some(bytes) => Ok(ScriptLine::Command(bytes)),
+        None => Ok(ScriptLine::NotHexadecimal),
     }
 }
 

@@ -14,7 +14,7 @@ ghost use Rattle.tpm_script.specs.Script.{AreAnswered, nonce_of, refused_line, s
 ghost use Rattle.tpm_script.specs.Script.{ReadsNoFurther, ReadsScript, ReadsTooMuch};
 ghost use Rattle.tpm_script.specs.inner.Progress.{GoesThrough, Runs};
 
-use crate::lines::{Line, MOST_DIGITS, nonce, read_line};
+use crate::lines::{MOST_DIGITS, ScriptLine, nonce, read_line};
 use std::alloc::{AllocError, Global};
 use std::io::Write;
 use tpm_device::Device;
@@ -95,14 +95,14 @@ impl Run {
             × OnTrue goes_on (self.new.command ≤ number + 1)) }
     {
         match read_line(alloc, line)? {
-            Line::Blank => {}
-            Line::Power => push_power(text, &mut self.device)?,
-            Line::Command(bytes) => {
+            ScriptLine::Blank => {}
+            ScriptLine::Power => push_power(text, &mut self.device)?,
+            ScriptLine::Command(bytes) => {
                 let command = self.command;
                 push_response(alloc, text, &mut self.device, command, bytes.as_slice())?;
                 self.command += 1;
             }
-            Line::NotHexadecimal => {
+            ScriptLine::NotHexadecimal => {
                 push_refused(text, number)?;
                 return Ok(false);
             }

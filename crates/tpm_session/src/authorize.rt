@@ -203,9 +203,10 @@ impl Sessions {
         let Some(session) = SessionHandle::from_number(number) else {
             unreachable!()
         };
-        match self.get(session) {
-            Some(_) => Ok(Authority::Slot(slot_of(session))),
-            None => Err(REFERENCE_S0),
+        let slot = slot_of(session);
+        match self.in_slot(slot) {
+            Some(found) if found.has_handle(session) => Ok(Authority::Slot(slot)),
+            _ => Err(REFERENCE_S0),
         }
     }
 
@@ -295,7 +296,7 @@ impl Sessions {
                 let signed = Signed {
                     session,
                     hashed: self.hashed(),
-                    entity,
+                    follows: session.follows(entity),
                     auth,
                 };
                 signed.reply(command, params, nonce)

@@ -1,14 +1,14 @@
 //! The evidence that a command is authorized, a password or an HMAC, and the session of its reply
 //! (Part 1, "HMAC Computation" and "Password Authorizations").
 
-ghost use Rattle.std.specs.Prelude.{◌≡◌, ◌&&◌, ℕ, List, [], ◌∷◌, bytes_eq, option_map};
+ghost use Rattle.std.specs.Prelude.{◌≡◌, ◌&&◌, ℕ, List, [], ◌∷◌, option_map};
 ghost use Rattle.tpm_types.specs.CommandCodes.{code_number};
 ghost use Rattle.tpm_hmac.specs.Hmac.{hmac};
-ghost use Rattle.tpm_hmac.specs.Sessions.{mac_text, cp_hash as cp_hash_of};
-ghost use Rattle.tpm_model.specs.Authorization.{follows, is_empty, key_for, needs_none, is_signed};
+ghost use Rattle.tpm_hmac.specs.Sessions.{mac_text, whole_key, cp_hash as cp_hash_of, trim as trim_of};
+ghost use Rattle.tpm_model.specs.Authorization.{follows, is_empty, needs_none, is_signed};
 ghost use Rattle.tpm_model.specs.Authorization.{failure as failure_of, Evidence, evidence_by};
 ghost use Rattle.tpm_model.specs.Authorization.{check_evidence as evidence_checked, nonce_next, reply_auths};
-ghost use Rattle.tpm_model.specs.Authorization.{password_reply as password_reply_of, command_text};
+ghost use Rattle.tpm_model.specs.Authorization.{password_reply as password_reply_of};
 ghost use Rattle.tpm_session.specs.Entities.{entity_in, no_reply as no_reply_of};
 ghost use Rattle.tpm_session.specs.inner.Signing.{authorizer_in, signed_in, reply_hmac};
 
@@ -39,14 +39,6 @@ impl Session {
         }
     }
 
-    // Whether the key of its HMACs is empty, of which what follows the session key is a part.
-    fn has_no_key(&self, entity: &Entity<'_>) -> bool
-        ensures { result ≡
-            (is_empty self.now.key && is_empty (follows self.now (entity_in entity.now))) }
-    {
-        self.key.as_slice().is_empty() && self.follows(entity).is_empty()
-    }
-
     // Its next nonce: the first of these bytes.
     fn next_nonce(&self, nonce: &[u8; NONCE_BYTES]) -> Nonce
         ensures { result ≡ nonce_next self.now nonce.now }
@@ -59,24 +51,34 @@ impl Session {
     }
 }
 
-/// What the HMACs of a session are made of, for a command of this entity and for its reply.
+/// What the HMACs of a session are made of, for a command of an entity and for its reply.
 #[derive(Clone, Copy)]
 pub(crate) struct Signed<'a> {
     pub session: &'a Session,
     // A key that is hashed, which may be any.
     pub hashed: &'a SessionKey,
-    pub entity: &'a Entity<'a>,
+    // What follows the session key, by the entity.
+    pub follows: &'a [u8],
     // What the command has of the session.
     pub auth: &'a AuthRef<'a>,
 }
 
 impl Signed<'_> {
+    // Whether the key is empty, of which what follows the session key is a part.
+    fn has_no_key(&self) -> bool
+        ensures { result ≡
+            (is_empty self.now.session.now.key && is_empty (trim_of self.now.follows.now)) }
+    {
+        let session = self.session;
+        session.key.as_slice().is_empty() && trim(self.follows).is_empty()
+    }
+
     // Whether an empty HMAC is none: the command has no other, and there is no key.
     #[tactic(auto, using(crate::proofs::Keys::empty_key))]
     fn needs_none(&self) -> bool
         ensures { result ≡ needs_none (signed_in self.now []) }
     {
-        self.session.has_no_key(self.entity) && self.auth.hmac().is_empty()
+        self.has_no_key() && self.auth.hmac().is_empty()
     }
 
     // The MAC of a command or of a response under the session key and what follows it, by the key that was hashed where
@@ -85,12 +87,12 @@ impl Signed<'_> {
     fn mac(&self, p_hash: &[u8], newer: &[u8], older: &[u8]) -> Digest
         ensures { result ≡
             hmac self.now.session.now.hash
-            (key_for self.now.session.now (entity_in self.now.entity.now))
+            (whole_key self.now.session.now.key self.now.follows.now)
             (mac_text p_hash.now newer.now older.now self.now.auth.now.attrs) }
     {
         let session = self.session;
         let key = session.key.as_slice();
-        let follows = session.follows(self.entity);
+        let follows = self.follows;
         let attrs = self.auth.attrs();
         if follows.is_empty() && self.hashed.is_of(session.hash, key) {
             return self
@@ -100,16 +102,17 @@ impl Signed<'_> {
         command_mac(session.hash, key, follows, p_hash, newer, older, attrs)
     }
 
-    // Whether the command has this HMAC of the session, whole: that of its code, Names and
-    // parameters, under the session key and what follows it.
-    fn has_mac(&self, claim: &Claim<'_>) -> bool
+    // Whether the command has the session's HMAC, whole: that of its code, Names and parameters, under the session key
+    // and what follows it; or needs none.
+    fn is_right(&self, claim: &Claim<'_>) -> bool
         ensures { result ≡
-            bytes_eq self.now.auth.now.hmac (hmac self.now.session.now.hash
-            (key_for self.now.session.now (entity_in self.now.entity.now))
-            (command_text (signed_in self.now
+            is_signed (signed_in self.now
             (cp_hash_of self.now.session.now.hash (code_number claim.now.command) claim.now.names
-            claim.now.params)))) }
+            claim.now.params)) }
     {
+        if self.needs_none() {
+            return true;
+        }
         let session = self.session;
         let p_hash = cp_hash(session.hash, claim.command, claim.names, claim.params);
         let mac = self.mac(
@@ -118,16 +121,6 @@ impl Signed<'_> {
             session.nonce.as_slice(),
         );
         same(self.auth.hmac(), mac.as_slice())
-    }
-
-    // Whether the command is authorized by the session's HMAC, or needs none.
-    fn is_right(&self, claim: &Claim<'_>) -> bool
-        ensures { result ≡
-            is_signed (signed_in self.now
-            (cp_hash_of self.now.session.now.hash (code_number claim.now.command) claim.now.names
-            claim.now.params)) }
-    {
-        self.needs_none() || self.has_mac(claim)
     }
 
     // The HMAC of a reply that has this nonce, or none.
@@ -219,7 +212,7 @@ pub(crate) fn check_evidence<'a>(
             let signed = Signed {
                 session,
                 hashed,
-                entity,
+                follows: session.follows(entity),
                 auth,
             };
             signed.is_right(claim)

@@ -224,8 +224,8 @@ impl Sessions {
         }
     }
 
-    // The policy or trial session of this handle, where it is loaded.
-    fn policy(&self, session: PolicyHandle) -> Option<&Session>
+    /// The policy or trial session of this handle, where it is loaded.
+    pub fn policy(&self, session: PolicyHandle) -> Option<&Session>
         ensures { option_map (λ s. s.now) result ≡ loaded self.now session }
     {
         self.get(any_session(session))

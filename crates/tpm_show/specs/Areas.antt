@@ -1,5 +1,5 @@
 -- What stands behind the header of a frame, whether the profile has its command or the library's table (this profile).
-use Rattle.std.specs.Prelude.{ℕ, Bool, List, [], ◌∷◌, ◌++◌, map}
+use Rattle.std.specs.Prelude.{ℕ, Bool, List, [], ◌∷◌, ◌++◌, codes, map}
 use Rattle.tpm_commands.specs.declared.command.CommandBody.{CommandBody}
 use Rattle.tpm_commands.specs.declared.response.ReplyBody.{ReplyBody}
 use Rattle.tpm_commands.specs.declared.response.Response.{Response}
@@ -9,16 +9,23 @@ use Rattle.tpm_buffer.specs.ResponseAreas.{handle_of}
 use Rattle.tpm_buffer.specs.Responses.{ReplyCut}
 use Rattle.tpm_show.specs.ReplyText.{handles_of}
 use Rattle.tpm_show.specs.Fields.{command_fields, reply_fields}
-use Rattle.tpm_show.specs.Pieces.{Piece, Handles, Parameters, fields_told, sessions_told}
-use Rattle.tpm_show.specs.Sessions.{ShownSession, of_command, of_reply}
+use Rattle.tpm_show.specs.declared.piece.How.TheVariants as how
+use Rattle.tpm_show.specs.FieldText.{fields_told}
+use Rattle.tpm_show.specs.HandleNames.{handles_told}
+use Rattle.tpm_show.specs.Pieces.{Bytes, Piece, line_end, says, words}
+use Rattle.tpm_show.specs.Sessions.{ShownSession, of_command, of_reply, sessions_told}
+
+-- the parameters as they came
+unfoldable pub parameters_told : (bytes : List ℕ) → List Piece
+parameters_told bytes = words (codes "parameters") ∷ says how.Behind (codes "parameters") (Bytes bytes) ∷ line_end ∷ []
 
 -- what stands behind a command's header: its handles, its sessions, and its parameters as they came
 abbrev pub areas_told : (handles : List ℕ) → List ShownSession → (params : List ℕ) → List Piece
-areas_told handles sessions params = Handles handles ∷ (sessions_told sessions ++ Parameters params ∷ [])
+areas_told handles sessions params = handles_told handles ++ (sessions_told sessions ++ parameters_told params)
 
 -- what stands behind a response's header: its handles, its parameters as they came, and its sessions
 abbrev pub reply_areas_told : (handles params : List ℕ) → List ShownSession → List Piece
-reply_areas_told handles params sessions = Handles handles ∷ Parameters params ∷ sessions_told sessions
+reply_areas_told handles params sessions = handles_told handles ++ (parameters_told params ++ sessions_told sessions)
 
 -- a command, and where this is asked for its parameters by their names and their types
 abbrev pub command_rest : (fields : Bool) → Cut → CommandBody → List Piece
@@ -28,8 +35,9 @@ command_rest fields areas body =
 -- a reply: its handle, its parameters likewise, and its sessions
 abbrev pub reply_rest : (fields : Bool) → ReplyCut → ReplyBody → List Piece
 reply_rest fields r body =
-    Handles (handles_of (handle_of r)) ∷ Parameters r.params
-    ∷ (fields_told fields (reply_fields body) ++ sessions_told (map of_reply r.auths))
+    handles_told (handles_of (handle_of r))
+    ++ (parameters_told r.params
+    ++ (fields_told fields (reply_fields body) ++ sessions_told (map of_reply r.auths)))
 
 -- A response of another code than 0 has nothing there.
 abbrev pub response_rest : (fields : Bool) → ReplyCut → Response → List Piece

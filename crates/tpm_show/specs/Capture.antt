@@ -20,7 +20,8 @@ use Rattle.tpm_show.specs.declared.frame_header.FrameHeader.{FrameHeader}
 use Rattle.tpm_show.specs.Headers.{header_in}
 use Rattle.tpm_show.specs.Library.{library_response, response_areas_told}
 use Rattle.tpm_show.specs.Passages.{passage_told}
-use Rattle.tpm_show.specs.Pieces.{Piece, Untold}
+use Rattle.tpm_show.specs.declared.piece.How.TheVariants.{Alone}
+use Rattle.tpm_show.specs.Pieces.{Piece, Word, line_end, says}
 use Rattle.tpm_show.specs.Refusals.{CommandBytes, ReplyBytes, TellsBuffer, head_told, status_if}
 use Rattle.tpm_show.specs.Reports.{IsReport, fault_report, frame_report}
 use Rattle.tpm_show.specs.declared.capture_frames.Awaited.TheVariants as awaits
@@ -104,10 +105,14 @@ abbrev pub is_code_alone : Option FrameHeader → List ℕ → Bool
 is_code_alone None bytes = false
 is_code_alone (Some h) bytes = not (h.code == 0) && (h.size == 10 && length bytes == 10)
 
+-- why a reply is not told
+unfoldable pub untold : (sentence : List ℕ) → List Piece
+untold sentence = says Alone (codes "fault") (Word sentence) ∷ line_end ∷ []
+
 -- a response to a command that the profile hasn't: it is a code alone, or the library's tables have what is behind it
 abbrev pub TellsOther : Option Listed → List ℕ → Status → List Piece → Type 0
 TellsOther None bytes status pieces =
-    (status ≡ Refused) × (pieces ≡ Untold (codes "its command is not known") ∷ [])
+    (status ≡ Refused) × (pieces ≡ untold (codes "its command is not known"))
 TellsOther (Some c) bytes status pieces =
     (status ≡ status_if (is_code_alone (header_in bytes) bytes
     || is_some (library_response (Some c) bytes (header_in bytes))))
@@ -125,9 +130,9 @@ abbrev pub TellsReply : Awaited → FrameAt → Status → List Piece → Type 0
 TellsReply (awaits.Reply command) f status pieces = TellsBuffer f.fields (ReplyBytes command f.bytes) status pieces
 TellsReply (awaits.Other code) f status pieces = TellsOther (command_of code) f.bytes status pieces
 TellsReply awaits.Unknown f status pieces =
-    (status ≡ Refused) × (pieces ≡ Untold (codes "its command is not known") ∷ [])
+    (status ≡ Refused) × (pieces ≡ untold (codes "its command is not known"))
 TellsReply awaits.Nothing f status pieces =
-    (status ≡ Refused) × (pieces ≡ Untold (codes "no command is before it") ∷ [])
+    (status ≡ Refused) × (pieces ≡ untold (codes "no command is before it"))
 
 -- behind the header of a frame that went this way
 abbrev pub TellsRest : Direction → FrameAt → Status → List Piece → Type 0

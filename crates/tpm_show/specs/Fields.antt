@@ -9,7 +9,8 @@ use Rattle.tpm_commands.specs.declared.command.CommandBody.TheVariants as bodies
 use Rattle.tpm_commands.specs.declared.response.ReplyBody.TheVariants as replies
 use Rattle.tpm_buffer.specs.Commands.{code_for, params_of}
 use Rattle.tpm_show.specs.Parts.{public_parts, selection_parts, digest_parts, digest_value_parts, symmetric_parts}
-use Rattle.tpm_show.specs.Pieces.{Piece, fields_from, parts}
+use Rattle.tpm_show.specs.FieldText.{fields_from, parts}
+use Rattle.tpm_show.specs.Pieces.{Piece}
 
 -- ---- what stands in them
 

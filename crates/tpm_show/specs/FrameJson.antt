@@ -1,46 +1,37 @@
--- What is told of a frame in an object of JSON (this profile; RFC 8259).
-use Rattle.std.specs.Prelude.{ℕ, Bool, true, false, List, [], ◌∷◌, ◌++◌, codes, flat_map}
-use Rattle.json.specs.Token.{Token, end_array, end_object}
-use Rattle.tpm_wire.specs.declared.refusal.Refusal.{Refusal}
+-- What is told of a frame in an object of JSON (RFC 8259).
+use Rattle.std.specs.Prelude.{ℕ, List, [], ◌∷◌, ◌++◌, flat_map}
+use Rattle.std.specs.Fmt.{decimal}
+use Rattle.hex.specs.Hex.{encode_lower}
+use Rattle.json.specs.Token.{Token, begin_object, end_object, begin_array, end_array, string, number, null}
 use Rattle.tpm_output.specs.Numbers.{hexadecimal}
-use Rattle.tpm_names.specs.Codes.{meaning_of}
-use Rattle.tpm_show.specs.FieldText.{field_members, number_object, structure_begins}
-use Rattle.tpm_show.specs.HandleNames.{handles_members}
-use Rattle.tpm_show.specs.Headers.{code_name_member, command_head_members, reply_head_members}
-use Rattle.tpm_show.specs.Members.{hex_member, list_begins, number_member, object_of, text_member}
-use Rattle.tpm_show.specs.Passages.{packet_members}
-use Rattle.tpm_show.specs.Pieces.{Piece, CommandHead, ReplyHead, Packet, Handles, ListBegins, ListEnds}
-use Rattle.tpm_show.specs.Pieces.{NumberedSession, Parameters, Value, StructureBegins, StructureEnds, Number}
-use Rattle.tpm_show.specs.Pieces.{RefusedWith, Untold}
-use Rattle.tpm_show.specs.Sessions.{session_members}
+use Rattle.tpm_output.specs.Reading.{name_tokens}
+use Rattle.tpm_show.specs.declared.piece.Shape.{Shape}
+use Rattle.tpm_show.specs.declared.piece.Shape.TheVariants as shape
+use Rattle.tpm_show.specs.Pieces.{Value, Word, Number, Code, Bytes, Null, Piece, Says, InLine, Opens, Closes}
 
-abbrev pub verdict_name : (beyond : Bool) → List ℕ
-verdict_name false = codes "refused"
-verdict_name true = codes "beyond"
+abbrev pub token : Value → Token
+token (Word w) = string w
+token (Number n) = number (decimal n)
+token (Code n) = string (hexadecimal 3 n)
+token (Bytes bytes) = string (encode_lower bytes)
+token Null = null
 
--- a response code, its name where Part 2 has one (6.6), and how many bytes precede the fault
-unfoldable pub verdict_members : (beyond : Bool) → Refusal → List Token
-verdict_members beyond refusal = text_member (verdict_name beyond) (hexadecimal 3 refusal.code)
-    ++ (code_name_member (codes "fault") (meaning_of refusal.code) refusal.code
-    ++ number_member (codes "at") refusal.at)
+abbrev pub opening : Shape → Token
+opening shape.Object = begin_object
+opening shape.List = begin_array
 
--- ---- a piece
+abbrev pub closing : Shape → Token
+closing shape.Object = end_object
+closing shape.List = end_array
 
 abbrev pub tokens_of : Piece → List Token
-tokens_of (CommandHead h) = command_head_members h
-tokens_of (ReplyHead command h) = reply_head_members command h
-tokens_of (Packet stamp connection) = packet_members stamp connection
-tokens_of (Handles handles) = handles_members handles
-tokens_of (ListBegins name) = list_begins name
-tokens_of ListEnds = end_array ∷ []
-tokens_of (NumberedSession i s) = object_of (session_members s)
-tokens_of (Parameters bytes) = hex_member (codes "parameters") bytes
-tokens_of (Value indent f bytes) = object_of (field_members f bytes)
-tokens_of (StructureBegins indent f bytes) = structure_begins f bytes
-tokens_of StructureEnds = end_array ∷ end_object ∷ []
-tokens_of (Number indent name n) = number_object name n
-tokens_of (RefusedWith beyond refusal) = verdict_members beyond refusal
-tokens_of (Untold sentence) = text_member (codes "fault") sentence
+tokens_of (Says h name v) = name_tokens name ++ token v ∷ []
+tokens_of (InLine h v) = []
+tokens_of (Opens name s) = name_tokens name ++ opening s ∷ []
+tokens_of (Closes s) = closing s ∷ []
 
 abbrev pub in_members : List Piece → List Token
 in_members pieces = flat_map tokens_of pieces
+
+unfoldable pub object_of : (members : List Token) → List Token
+object_of members = begin_object ∷ (members ++ end_object ∷ [])

@@ -1,14 +1,11 @@
 -- Handles by the names that Part 2 gives them, and what is told of a list of handles (this profile).
-use Rattle.std.specs.Prelude.{ℕ, Bool, true, false, List, [], ◌∷◌, ◌++◌, codes, map, Option, Some, None}
+use Rattle.std.specs.Prelude.{ℕ, ◌+◌, List, [], ◌∷◌, ◌++◌, codes, map, Option, Some, None}
 use Rattle.std.specs.Option.{option_or}
-use Rattle.std.specs.Fmt.{decimal}
-use Rattle.json.specs.Token.{Token, null, string}
+use Rattle.std.specs.Int.{to_be_bytes, w32}
 use Rattle.tpm_types.specs.Handles.{kind_of}
 use Rattle.tpm_output.specs.Named.{Named, named, named_in}
-use Rattle.tpm_output.specs.Text.{lines_from}
-use Rattle.tpm_output.specs.Numbers.{hexadecimal}
-use Rattle.tpm_show.specs.Headers.{name_behind}
-use Rattle.tpm_show.specs.Members.{list_member}
+use Rattle.tpm_show.specs.declared.piece.How.TheVariants as how
+use Rattle.tpm_show.specs.Pieces.{Value, Word, Number, Bytes, Null, Piece, Says, InLine, line_end, list_told, words}
 
 -- ---- names
 
@@ -66,35 +63,32 @@ handle_kinds =
 unfoldable pub handle_named : ℕ → Option Named
 handle_named handle = option_or (named_in permanent_handles handle) (named_in handle_kinds (kind_of handle))
 
--- ---- in lines
+-- ---- what is told of handles
 
--- where names are asked for
-abbrev pub handle_behind : (names : Bool) → ℕ → List ℕ
-handle_behind false handle = []
-handle_behind true handle = name_behind (handle_named handle)
+abbrev pub name_in_line : Option Named → List Piece
+name_in_line None = []
+name_in_line (Some n) = InLine how.Asked (Word n.name) ∷ []
 
-unfoldable pub handle_line : (names : Bool) → ℕ → ℕ → List ℕ
-handle_line names i handle = codes "handle "
-    ++ (decimal i ++ (codes " " ++ (hexadecimal 8 handle ++ (handle_behind names handle ++ codes "\n"))))
+-- In a line it has its number, and its name.
+unfoldable pub handle_told : ℕ → ℕ → List Piece
+handle_told i handle = words (codes "handle") ∷ InLine how.Behind (Number i)
+    ∷ Says how.Behind None (Bytes (to_be_bytes w32 handle))
+    ∷ (name_in_line (handle_named handle) ++ line_end ∷ [])
 
-abbrev pub handle_lines : (names : Bool) → List ℕ → List ℕ
-handle_lines names handles = lines_from (handle_line names) 1 handles
-
--- ---- in an object
-
-abbrev pub handle_number : ℕ → Token
-handle_number handle = string (hexadecimal 8 handle)
+abbrev pub handles_from : ℕ → List ℕ → List Piece
+handles_from i [] = []
+handles_from i (handle ∷ handles) = handle_told i handle ++ handles_from (i + 1) handles
 
 -- A handle of no kind of Part 2 has none.
-abbrev pub name_or_null : Option Named → Token
-name_or_null None = null
-name_or_null (Some n) = string n.name
+abbrev pub name_or_null : Option Named → Value
+name_or_null None = Null
+name_or_null (Some n) = Word n.name
 
-abbrev pub handle_name : ℕ → Token
-handle_name handle = name_or_null (handle_named handle)
+abbrev pub handle_name : ℕ → Piece
+handle_name handle = Says how.Nowhere None (name_or_null (handle_named handle))
 
 -- the handles and their names, in the same order
-abbrev pub handles_members : List ℕ → List Token
-handles_members handles =
-    list_member (codes "handles") (map handle_number handles)
-    ++ list_member (codes "handle_names") (map handle_name handles)
+unfoldable pub handles_told : List ℕ → List Piece
+handles_told handles =
+    list_told (codes "handles") (handles_from 1 handles)
+    ++ list_told (codes "handle_names") (map handle_name handles)

@@ -1,21 +1,21 @@
 -- The header of a frame, whatever a profile has of it, and what is told of it (Part 1, "Command/Response Structure";
--- this profile; RFC 8259).
-use Rattle.std.specs.Prelude.{ℕ, Bool, true, false, List, [], ◌∷◌, ◌++◌, length, take, nat_lt, codes, Option, Some}
+-- this profile).
+use Rattle.std.specs.Prelude.{ℕ, List, [], ◌∷◌, ◌++◌, length, take, nat_lt, codes, Option, Some}
 use Rattle.std.specs.Prelude.{None, Result, Ok, Err, if◌then◌else◌}
-use Rattle.std.specs.Fmt.{decimal}
-use Rattle.json.specs.Token.{Token}
+use Rattle.std.specs.Int.{to_be_bytes, w16, w32}
 use Rattle.tpm_wire.specs.declared.refusal.Refusal.{Refusal}
 use Rattle.tpm_wire.specs.Token.{Here, at_start}
 use Rattle.tpm_wire.specs.Layout.Form.{field, done}
 use Rattle.tpm_wire.specs.Reading.{read}
 use Rattle.tpm_wire.specs.Buffers.{Layout, any_number}
 use Rattle.tpm_output.specs.Named.{Named, named, named_in}
-use Rattle.tpm_output.specs.Numbers.{hexadecimal}
 use Rattle.tpm_show.specs.declared.frame_header.FrameHeader.{FrameHeader}
 use Rattle.tpm_show.specs.CommandNames.{Listed, command_of}
 use Rattle.tpm_names.specs.Codes.{code_name, meaning_of}
 use Rattle.tpm_names.specs.Meanings.{Meaning}
-use Rattle.tpm_show.specs.Members.{name_member, number_member, text_member}
+use Rattle.tpm_show.specs.declared.piece.How.{How}
+use Rattle.tpm_show.specs.declared.piece.How.TheVariants as how
+use Rattle.tpm_show.specs.Pieces.{Value, Word, Number, Code, Bytes, Piece, InLine, line_end, says, words}
 
 -- ---- ten bytes
 
@@ -47,74 +47,49 @@ tag_names =
     named 0x8002 (codes "TPM_ST_SESSIONS") ∷
     []
 
-abbrev pub name_or_number : Option Listed → ℕ → List ℕ
-name_or_number (Some c) code = c.name
-name_or_number None code = hexadecimal 8 code
-
 -- the name of a command of the library, or the number of any other
-unfoldable pub command_name : ℕ → List ℕ
-command_name code = name_or_number (command_of code) code
+abbrev pub name_or_number : Option Listed → ℕ → Value
+name_or_number (Some c) code = Word c.name
+name_or_number None code = Bytes (to_be_bytes w32 code)
 
--- ---- in a line
-
-abbrev pub name_behind : Option Named → List ℕ
-name_behind None = []
-name_behind (Some n) = codes " " ++ n.name
-
--- where names are asked for
-abbrev pub tag_behind : (names : Bool) → ℕ → List ℕ
-tag_behind false tag = []
-tag_behind true tag = name_behind (named_in tag_names tag)
+-- ---- the name of a response code, where it has one
 
 abbrev pub code_behind : Option Meaning → ℕ → List ℕ
 code_behind None code = []
 code_behind (Some m) code = codes " " ++ code_name code m
 
--- where names are asked for
-abbrev pub code_named : (names : Bool) → ℕ → List ℕ
-code_named false code = []
-code_named true code = code_behind (meaning_of code) code
+abbrev pub code_told : How → (member : List ℕ) → Option Meaning → ℕ → List Piece
+code_told h member None code = []
+code_told h member (Some m) code = says h member (Word (code_name code m)) ∷ []
 
-unfoldable pub size_and_tag : (names : Bool) → FrameHeader → List ℕ
-size_and_tag names h = codes " size "
-    ++ (decimal h.size ++ (codes " tag " ++ (hexadecimal 4 h.tag ++ tag_behind names h.tag)))
+abbrev pub code_in_line : Option Meaning → ℕ → List Piece
+code_in_line None code = []
+code_in_line (Some m) code = InLine how.Asked (Word (code_name code m)) ∷ []
 
-unfoldable pub command_head : (names : Bool) → FrameHeader → List ℕ
-command_head names h = codes "command " ++ (command_name h.code ++ (size_and_tag names h ++ codes "\n"))
+-- ---- what is told of a header
+
+abbrev pub command_told : ℕ → Piece
+command_told code = says how.Behind (codes "command") (name_or_number (command_of code) code)
+
+abbrev pub tag_name : Option Named → List Piece
+tag_name None = []
+tag_name (Some n) = says how.Asked (codes "tag_name") (Word n.name) ∷ []
+
+unfoldable pub size_and_tag : FrameHeader → List Piece
+size_and_tag h = says how.Under (codes "size") (Number h.size)
+    ∷ says how.Under (codes "tag") (Bytes (to_be_bytes w16 h.tag))
+    ∷ tag_name (named_in tag_names h.tag)
+
+unfoldable pub command_head : FrameHeader → List Piece
+command_head h = words (codes "command") ∷ command_told h.code ∷ (size_and_tag h
+    ++ says how.Nowhere (codes "command_code") (Bytes (to_be_bytes w32 h.code)) ∷ line_end ∷ [])
 
 -- which command a reply answers, where one is before it
-abbrev pub answered : Option ℕ → List ℕ
+abbrev pub answered : Option ℕ → List Piece
 answered None = []
-answered (Some code) = codes " " ++ command_name code
+answered (Some code) = command_told code ∷ []
 
-unfoldable pub reply_head : (names : Bool) → (command : Option ℕ) → FrameHeader → List ℕ
-reply_head names command h = codes "reply" ++ (answered command ++ (size_and_tag names h
-    ++ (codes " code " ++ (hexadecimal 3 h.code ++ (code_behind (meaning_of h.code) h.code ++ codes "\n")))))
-
--- ---- in an object
-
--- the name of a response code under this member
-abbrev pub code_name_member : (member : List ℕ) → Option Meaning → ℕ → List Token
-code_name_member member None code = []
-code_name_member member (Some m) code = text_member member (code_name code m)
-
-unfoldable pub size_and_tag_members : FrameHeader → List Token
-size_and_tag_members h = number_member (codes "size") h.size
-    ++ (text_member (codes "tag") (hexadecimal 4 h.tag) ++ name_member (codes "tag_name") (named_in tag_names h.tag))
-
-abbrev pub command_member : ℕ → List Token
-command_member code = text_member (codes "command") (command_name code)
-
-unfoldable pub command_head_members : FrameHeader → List Token
-command_head_members h = command_member h.code
-    ++ (size_and_tag_members h ++ text_member (codes "command_code") (hexadecimal 8 h.code))
-
-abbrev pub answered_member : Option ℕ → List Token
-answered_member None = []
-answered_member (Some code) = command_member code
-
-unfoldable pub reply_head_members : (command : Option ℕ) → FrameHeader → List Token
-reply_head_members command h = answered_member command
-    ++ (size_and_tag_members h
-    ++ (text_member (codes "code") (hexadecimal 3 h.code)
-    ++ code_name_member (codes "code_name") (meaning_of h.code) h.code))
+unfoldable pub reply_head : (command : Option ℕ) → FrameHeader → List Piece
+reply_head command h = words (codes "reply") ∷ (answered command ++ (size_and_tag h
+    ++ says how.Under (codes "code") (Code h.code)
+    ∷ (code_told how.Behind (codes "code_name") (meaning_of h.code) h.code ++ line_end ∷ [])))

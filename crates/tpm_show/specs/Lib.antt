@@ -21,7 +21,6 @@ pub mod Explain
 pub mod CommandNames
 pub mod Headers
 pub mod Library
-pub mod Members
 pub mod Pieces
 pub mod Passages
 pub mod FrameLines

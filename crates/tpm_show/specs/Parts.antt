@@ -1,5 +1,5 @@
 -- What `show --fields` tells of the parts of structures, by the names that Part 2 gives them (this profile).
-use Rattle.std.specs.Prelude.{ℕ, List, [], ◌∷◌, filter, flat_map, map, codes as text, Some, None}
+use Rattle.std.specs.Prelude.{ℕ, List, [], ◌∷◌, ◌++◌, filter, flat_map, codes as text, Some, None}
 use Rattle.std.specs.List.{range_with_len}
 use Rattle.tpm_wire.specs.Spelling.{spelling}
 use Rattle.tpm_types.specs.declared.alg.Alg.{Alg}
@@ -12,7 +12,9 @@ use Rattle.tpm_types.specs.Tpms.{selection, is_selected, nv_public_area}
 use Rattle.tpm_types.specs.Tpmt.{digest_value, sym_def}
 use Rattle.tpm_output.specs.Named.{Named, named as numbered}
 use Rattle.tpm_show.specs.Bits.{bits_set}
-use Rattle.tpm_show.specs.Pieces.{Field, Piece, Number, Value, fields_from, named, parts, structure_told}
+use Rattle.tpm_commands.specs.Row.{Field, named}
+use Rattle.tpm_show.specs.FieldText.{fields_from, number_told, parts, structure_told, value_told}
+use Rattle.tpm_show.specs.Pieces.{Piece}
 
 -- ---- TPMA_NV (13.4)
 
@@ -42,8 +44,8 @@ attribute_names =
     numbered 31 (text "TPMA_NV_READ_STCLEAR") ∷
     []
 
-abbrev pub set_attribute : Named → Piece
-set_attribute bit = Number (text "      ") bit.name 1
+abbrev pub set_attribute : Named → List Piece
+set_attribute bit = number_told (text "      ") bit.name 1
 
 unfoldable pub attributes_set : ℕ → List Named
 attributes_set attrs = bits_set attribute_names attrs
@@ -51,7 +53,7 @@ attributes_set attrs = bits_set attribute_names attrs
 -- the field TPM_NT, whatever it is, and each bit that is set
 unfoldable pub attribute_parts : ℕ → List Piece
 attribute_parts attrs =
-    Number (text "      ") (text "TPM_NT") (nv_type attrs) ∷ map set_attribute (attributes_set attrs)
+    number_told (text "      ") (text "TPM_NT") (nv_type attrs) ++ flat_map set_attribute (attributes_set attrs)
 
 -- ---- TPMS_NV_PUBLIC (13.5), which is what TPM2B_NV_PUBLIC (13.6) has
 
@@ -77,14 +79,14 @@ selection_names =
     named (text "pcrSelect") (text "BYTE") ∷
     []
 
-abbrev pub register_part : (register : ℕ) → Piece
-register_part register = Number (text "        ") (text "PCR") register
+abbrev pub register_part : (register : ℕ) → List Piece
+register_part register = number_told (text "        ") (text "PCR") register
 
 unfoldable pub selected_registers : (select : List ℕ) → List ℕ
 selected_registers select = filter (is_selected select) (range_with_len 0 24)
 
 abbrev pub register_parts : (select : List ℕ) → List Piece
-register_parts select = map register_part (selected_registers select)
+register_parts select = flat_map register_part (selected_registers select)
 
 abbrev pub selection_members : Selection → List Piece
 selection_members s = fields_from (text "      ") selection_names
@@ -100,7 +102,7 @@ selection_parts selections = flat_map selection_entry selections
 -- ---- TPML_DIGEST (10.9.5)
 
 abbrev pub digest_entry : List ℕ → List Piece
-digest_entry d = Value (text "    ") (named (text "digests") (text "TPM2B_DIGEST")) (spelling digest d) ∷ []
+digest_entry d = value_told (text "    ") (named (text "digests") (text "TPM2B_DIGEST")) (spelling digest d)
 
 abbrev pub digest_parts : List (List ℕ) → List Piece
 digest_parts digests = flat_map digest_entry digests

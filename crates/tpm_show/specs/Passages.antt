@@ -1,11 +1,10 @@
--- Where a frame stands among the packets of a network, in a line and in an object of JSON (this profile; RFC 8259).
+-- Where a frame stands among the packets of a network (this profile).
 use Rattle.std.specs.Prelude.{ℕ, ◌/◌, ◌%◌, ◌-◌, List, [], ◌∷◌, ◌++◌, length, replicate, codes, Option, Some, None}
 use Rattle.std.specs.Fmt.{decimal}
-use Rattle.json.specs.Token.{Token}
 use Rattle.tpm_pcap.specs.declared.entry.Stamp.{Stamp}
 use Rattle.tpm_show.specs.declared.passage.Passage.{Passage}
-use Rattle.tpm_show.specs.Members.{number_member, text_member}
-use Rattle.tpm_show.specs.Pieces.{Piece, Packet}
+use Rattle.tpm_show.specs.declared.piece.How.TheVariants as how
+use Rattle.tpm_show.specs.Pieces.{Word, Number, Piece, line_end, says, words}
 
 -- nine digits at least, with zeros before the number
 abbrev pub nine_digits : ℕ → List ℕ
@@ -15,27 +14,19 @@ nine_digits n = replicate (9 - length (decimal n)) 48 ++ decimal n
 unfoldable pub time_text : ℕ → List ℕ
 time_text n = decimal (n / 1000000000) ++ (codes "." ++ nine_digits (n % 1000000000))
 
-abbrev pub time_behind : Option ℕ → List ℕ
-time_behind None = []
-time_behind (Some n) = codes " time " ++ time_text n
+abbrev pub time_told : Option ℕ → List Piece
+time_told None = []
+time_told (Some n) = says how.Under (codes "time") (Word (time_text n)) ∷ []
 
-unfoldable pub packet_line : Stamp → (connection : ℕ) → List ℕ
-packet_line stamp connection =
-    codes "packet " ++ (decimal stamp.packet ++ (time_behind stamp.time
-    ++ (codes " connection " ++ (decimal connection ++ codes "\n"))))
-
-abbrev pub time_member : Option ℕ → List Token
-time_member None = []
-time_member (Some n) = text_member (codes "time") (time_text n)
-
-unfoldable pub packet_members : Stamp → (connection : ℕ) → List Token
-packet_members stamp connection = number_member (codes "packet") stamp.packet
-    ++ (time_member stamp.time ++ number_member (codes "connection") connection)
+-- the packet in which the frame ends, and the number of its connection
+unfoldable pub packet_told : Stamp → (connection : ℕ) → List Piece
+packet_told stamp connection = words (codes "packet") ∷ says how.Behind (codes "packet") (Number stamp.packet)
+    ∷ (time_told stamp.time ++ says how.Under (codes "connection") (Number connection) ∷ line_end ∷ [])
 
 -- of a frame that stands among packets
 abbrev pub stamp_told : Option Stamp → (connection : ℕ) → List Piece
 stamp_told None connection = []
-stamp_told (Some stamp) connection = Packet stamp connection ∷ []
+stamp_told (Some stamp) connection = packet_told stamp connection
 
 abbrev pub passage_told : Passage → List Piece
 passage_told p = stamp_told p.stamp p.connection

@@ -1,6 +1,6 @@
 -- What is told of a buffer, whether the bytes spell what they are taken for or not (this profile).
-use Rattle.std.specs.Prelude.{◌≡◌, ◌⊎◌, ℕ, ◌&&◌, Bool, true, false, List, [], ◌∷◌, Option, Some, None, is_some}
-use Rattle.std.specs.Prelude.{option_map}
+use Rattle.std.specs.Prelude.{◌≡◌, ◌⊎◌, ℕ, ◌&&◌, Bool, true, false, List, [], ◌∷◌, ◌++◌, codes, Option, Some, None}
+use Rattle.std.specs.Prelude.{is_some}
 use Rattle.tpm_wire.specs.declared.refusal.Refusal.{Refusal}
 use Rattle.tpm_wire.specs.Path.{Spells, Fault}
 use Rattle.tpm_types.specs.declared.command_code.CommandCode.{CommandCode}
@@ -18,9 +18,11 @@ use Rattle.tpm_show.specs.declared.frame_header.FrameHeader.{FrameHeader}
 use Rattle.tpm_show.specs.Areas.{command_rest, response_rest}
 use Rattle.tpm_show.specs.Beyond.{is_beyond}
 use Rattle.tpm_show.specs.CommandNames.{command_of}
-use Rattle.tpm_show.specs.Headers.{header_in}
+use Rattle.tpm_names.specs.Codes.{meaning_of}
+use Rattle.tpm_show.specs.declared.piece.How.TheVariants as how
+use Rattle.tpm_show.specs.Headers.{code_in_line, code_told, command_head, header_in, reply_head}
 use Rattle.tpm_show.specs.Library.{command_areas_told, library_command, library_response, response_areas_told}
-use Rattle.tpm_show.specs.Pieces.{Piece, CommandHead, ReplyHead, RefusedWith}
+use Rattle.tpm_show.specs.Pieces.{Code, Number, Piece, line_end, says, words}
 
 -- bytes that are taken for a command, or for a response to this one
 pub data Buffer : Type 0 where
@@ -32,8 +34,8 @@ pub data Buffer : Type 0 where
 -- what it says, of a reply to the command of this code
 abbrev pub head_told : Direction → (answered : Option ℕ) → Option FrameHeader → List Piece
 head_told direction answered None = []
-head_told Command answered (Some h) = CommandHead h ∷ []
-head_told Reply answered (Some h) = ReplyHead answered h ∷ []
+head_told Command answered (Some h) = command_head h
+head_told Reply answered (Some h) = reply_head answered h
 
 abbrev pub buffer_head : Buffer → List Piece
 buffer_head (CommandBytes bytes) = head_told Command None (header_in bytes)
@@ -66,8 +68,23 @@ library_told (CommandBytes bytes) = command_areas_told (library_command bytes (h
 library_told (ReplyBytes code bytes) =
     response_areas_told (library_response (command_of (code_number code)) bytes (header_in bytes))
 
+abbrev pub verdict : (beyond : Bool) → List ℕ
+verdict false = codes "refused"
+verdict true = codes "beyond this profile,"
+
+abbrev pub verdict_name : (beyond : Bool) → List ℕ
+verdict_name false = codes "refused"
+verdict_name true = codes "beyond"
+
+-- a response code, its name where Part 2 has one (6.6), which ends the line, and how many bytes precede the fault
+unfoldable pub refusal_told : (beyond : Bool) → Refusal → List Piece
+refusal_told beyond refusal = words (verdict beyond) ∷ says how.Behind (verdict_name beyond) (Code refusal.code)
+    ∷ (code_told how.Nowhere (codes "fault") (meaning_of refusal.code) refusal.code
+    ++ says how.Under (codes "at") (Number refusal.at)
+    ∷ (code_in_line (meaning_of refusal.code) refusal.code ++ line_end ∷ []))
+
 abbrev pub refused_told : Buffer → Refusal → List Piece
-refused_told buffer refusal = RefusedWith (is_buffer_beyond buffer refusal) refusal ∷ library_told buffer
+refused_told buffer refusal = refusal_told (is_buffer_beyond buffer refusal) refusal ++ library_told buffer
 
 -- What is beyond this profile is not refused.
 abbrev pub status_if : (beyond : Bool) → Status

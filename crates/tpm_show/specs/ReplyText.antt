@@ -1,18 +1,18 @@
--- The program's lines of a response (this profile).
-use Rattle.std.specs.Prelude.{ℕ, Bool, List, [], ◌∷◌, ◌++◌, codes, Option, Some, None}
+-- What is told of a response by its command alone (this profile).
+use Rattle.std.specs.Prelude.{ℕ, List, [], ◌∷◌, ◌++◌, codes, Option, Some, None}
 use Rattle.std.specs.Fmt.{decimal}
 use Rattle.tpm_types.specs.declared.command_code.CommandCode.{CommandCode}
 use Rattle.tpm_types.specs.CommandCodes.{code_name}
 use Rattle.tpm_output.specs.Text.{line}
-use Rattle.tpm_output.specs.Numbers.{hexadecimal}
-use Rattle.tpm_show.specs.Headers.{code_named}
+use Rattle.tpm_names.specs.Codes.{meaning_of}
+use Rattle.tpm_show.specs.declared.piece.How.TheVariants as how
+use Rattle.tpm_show.specs.Headers.{code_in_line}
+use Rattle.tpm_show.specs.Pieces.{Code, Piece, InLine, line_end, words}
 
-unfoldable pub reply_code_words : ℕ → List ℕ
-reply_code_words code = codes "reply code " ++ hexadecimal 3 code
-
--- where names are asked for with that of the code
-abbrev pub reply_code_line : (names : Bool) → ℕ → List ℕ
-reply_code_line names code = reply_code_words code ++ (code_named names code ++ codes "\n")
+-- a code that has nothing behind it
+unfoldable pub code_alone_told : ℕ → List Piece
+code_alone_told code =
+    words (codes "reply code") ∷ InLine how.Behind (Code code) ∷ (code_in_line (meaning_of code) code ++ line_end ∷ [])
 
 unfoldable pub reply_line : CommandCode → ℕ → List ℕ
 reply_line command size = line (codes "reply" ∷ code_name command ∷ codes "size" ∷ decimal size ∷ [])

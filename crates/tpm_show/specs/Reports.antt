@@ -4,18 +4,20 @@ use Rattle.std.specs.Fmt.{decimal}
 use Rattle.json.specs.Lex.{tokens}
 use Rattle.json.specs.Print.{print}
 use Rattle.json.specs.Token.{Token}
-use Rattle.tpm_output.specs.Text.{line}
 use Rattle.tpm_show.specs.declared.capture_lines.Direction.TheVariants.{Command, Reply}
 use Rattle.tpm_show.specs.declared.capture_lines.Direction.{Direction}
-use Rattle.tpm_show.specs.FrameJson.{in_members}
+use Rattle.tpm_show.specs.declared.piece.How.TheVariants as how
+use Rattle.tpm_show.specs.FrameJson.{in_members, object_of}
 use Rattle.tpm_show.specs.FrameLines.{in_lines}
-use Rattle.tpm_show.specs.Members.{number_member, object_of, text_member}
-use Rattle.tpm_show.specs.Pieces.{Piece}
+use Rattle.tpm_show.specs.Pieces.{Word, Number, Piece, InLine, line_end, says, words}
 
 -- the lines of it, and the members of its object
 pub record Report : Type 0 where
   pub lines : List ℕ
   pub members : List Token
+
+abbrev pub report : (names : Bool) → List Piece → Report
+report names pieces = record { lines = in_lines names pieces; members = in_members pieces }
 
 -- The text is these tokens in a line, and reads back as them.
 pub record IsObjectLine (object : List Token) (text : List ℕ) : Type 0 where
@@ -37,82 +39,70 @@ abbrev pub mark_of : Direction → List ℕ
 mark_of Command = codes ">"
 mark_of Reply = codes "<"
 
--- its number, and which way it went
-abbrev pub front : ℕ → Direction → List ℕ
-front number direction = decimal number ++ (codes " " ++ (mark_of direction ++ codes " "))
-
 abbrev pub kind_of : Direction → List ℕ
 kind_of Command = codes "command"
 kind_of Reply = codes "response"
 
-abbrev pub front_members : ℕ → Direction → List Token
-front_members number direction =
-    number_member (codes "number") number ++ text_member (codes "kind") (kind_of direction)
+-- its number, and which way it went
+unfoldable pub front : ℕ → Direction → List Piece
+front number direction = says how.Alone (codes "number") (Number number) ∷ InLine how.Behind (Word (mark_of direction))
+    ∷ says how.Nowhere (codes "kind") (Word (kind_of direction)) ∷ words (codes " ") ∷ []
 
 abbrev pub frame_report : (names : Bool) → ℕ → Direction → List Piece → Report
-frame_report names number direction pieces = record {
-  lines = front number direction ++ in_lines names pieces;
-  members = front_members number direction ++ in_members pieces;
-}
+frame_report names number direction pieces = report names (front number direction ++ pieces)
 
 -- ---- in place of a frame
 
-abbrev pub fault_member : List ℕ → List Token
-fault_member fault = text_member (codes "fault") fault
+abbrev pub fault_told : List ℕ → List Piece
+fault_told fault = says how.Alone (codes "fault") (Word fault) ∷ line_end ∷ []
 
-abbrev pub at_member : ℕ → List Token
-at_member at = number_member (codes "at") at
+abbrev pub fault_at_told : List ℕ → ℕ → List Piece
+fault_at_told fault at =
+    says how.Alone (codes "fault") (Word fault) ∷ says how.Under (codes "at") (Number at) ∷ line_end ∷ []
 
-unfoldable pub fault_line : ℕ → List ℕ → List ℕ
-fault_line number fault = line (decimal number ∷ fault ∷ [])
+abbrev pub numbered_told : ℕ → List ℕ → List Piece
+numbered_told number fault =
+    says how.Alone (codes "number") (Number number) ∷ says how.Behind (codes "fault") (Word fault) ∷ line_end ∷ []
 
 -- of a line of this number that has no frame
 abbrev pub fault_report : ℕ → List ℕ → Report
-fault_report number fault = record {
-  lines = fault_line number fault;
-  members = number_member (codes "number") number ++ fault_member fault;
-}
+fault_report number fault = report false (numbered_told number fault)
 
-unfoldable pub stop_line : ℕ → List ℕ → ℕ → List ℕ
-stop_line number fault at = line (decimal number ∷ fault ∷ codes "at" ∷ decimal at ∷ [])
+abbrev pub stop_told : ℕ → List ℕ → ℕ → List Piece
+stop_told number fault at =
+    says how.Alone (codes "number") (Number number) ∷ says how.Behind (codes "fault") (Word fault)
+    ∷ says how.Under (codes "at") (Number at) ∷ line_end ∷ []
 
 -- of a frame of this number that does not come, behind so many bytes
 abbrev pub stop_report : ℕ → List ℕ → ℕ → Report
-stop_report number fault at = record {
-  lines = stop_line number fault at;
-  members = number_member (codes "number") number ++ (fault_member fault ++ at_member at);
-}
+stop_report number fault at = report false (stop_told number fault at)
 
-unfoldable pub packet_line : ℕ → List ℕ → List ℕ
-packet_line packet reason = codes "packet " ++ (decimal packet ++ (codes ": " ++ (reason ++ codes "\n")))
+abbrev pub packet_fault_told : ℕ → List ℕ → List Piece
+packet_fault_told packet reason =
+    words (codes "packet") ∷ says how.Behind (codes "packet") (Number packet)
+    ∷ words (codes ":") ∷ says how.Behind (codes "fault") (Word reason) ∷ line_end ∷ []
 
 -- of a packet that is not told
 abbrev pub packet_report : ℕ → List ℕ → Report
-packet_report packet reason = record {
-  lines = packet_line packet reason;
-  members = number_member (codes "packet") packet ++ fault_member reason;
-}
+packet_report packet reason = report false (packet_fault_told packet reason)
+
+abbrev pub no_capture_told : List Piece
+no_capture_told = fault_at_told (codes "no capture of libpcap") 0
 
 -- of a file that is no capture
 abbrev pub no_capture_report : Report
-no_capture_report = record {
-  lines = codes "no capture of libpcap at 0\n";
-  members = fault_member (codes "no capture of libpcap") ++ at_member 0;
-}
+no_capture_report = report false no_capture_told
 
 unfoldable pub no_packet : ℕ → List ℕ
 no_packet port = codes "no packet of port " ++ decimal port
 
 -- of a file without packets of the port
 abbrev pub no_packet_report : ℕ → Report
-no_packet_report port = record { lines = no_packet port ++ codes "\n"; members = fault_member (no_packet port) }
+no_packet_report port = report false (fault_told (no_packet port))
 
 unfoldable pub link_fault : ℕ → List ℕ
 link_fault number = codes "link type " ++ (decimal number ++ codes " is not known")
 
 -- of a capture whose link is of this type
 abbrev pub link_report : ℕ → Report
-link_report number = record {
-  lines = link_fault number ++ codes " at 20\n";
-  members = fault_member (link_fault number) ++ at_member 20;
-}
+link_report number = report false (fault_at_told (link_fault number) 20)

@@ -1,16 +1,16 @@
--- The sessions of a command or of a reply, as lines or as objects (Part 2, 10.13.2 and 10.13.3; RFC 8259).
-use Rattle.std.specs.Prelude.{ℕ, ◌==◌, if◌then◌else◌, Bool, true, false, List, [], ◌∷◌, ◌++◌, codes, map, Option}
-use Rattle.std.specs.Prelude.{Some, None}
-use Rattle.std.specs.Fmt.{decimal}
-use Rattle.json.specs.Token.{Token, string}
+-- What is told of the sessions of a command or of a reply (Part 2, 10.13.2 and 10.13.3; this profile).
+use Rattle.std.specs.Prelude.{ℕ, ◌+◌, List, [], ◌∷◌, ◌++◌, codes, Option, Some, None}
+use Rattle.std.specs.Int.{to_be_bytes, w32}
 use Rattle.tpm_types.specs.declared.tpms.Auth.{Auth}
 use Rattle.tpm_types.specs.declared.tpms.AuthReply.{AuthReply}
 use Rattle.tpm_output.specs.Named.{Named, named}
-use Rattle.tpm_output.specs.Text.{bytes_text, lines_from}
-use Rattle.tpm_output.specs.Numbers.{hexadecimal}
+use Rattle.tpm_show.specs.declared.piece.How.{How}
+use Rattle.tpm_show.specs.declared.piece.How.TheVariants as how
+use Rattle.tpm_show.specs.declared.piece.Shape.TheVariants as shape
 use Rattle.tpm_show.specs.Bits.{bits_set}
-use Rattle.tpm_show.specs.HandleNames.{handle_behind, handle_named}
-use Rattle.tpm_show.specs.Members.{hex_member, list_member, name_member, text_member}
+use Rattle.tpm_show.specs.HandleNames.{handle_named}
+use Rattle.tpm_show.specs.Pieces.{Word, Number, Bytes, Piece, Says, InLine, Opens, Closes, line_end, list_told, says}
+use Rattle.tpm_show.specs.Pieces.{words}
 
 -- a session, whose handle only a command's has
 pub record ShownSession : Type 0 where
@@ -42,49 +42,41 @@ attribute_names =
 unfoldable pub attributes_set : ℕ → List Named
 attributes_set attributes = bits_set attribute_names attributes
 
--- ---- a line
+-- ---- what is told of a session
 
--- behind the number: a space before the first name, and a comma before another
-unfoldable pub name_behind_number : ℕ → Named → List ℕ
-name_behind_number i bit = (if i == 1 then codes " " else codes ",") ++ bit.name
+abbrev pub name_told : Option Named → List Piece
+name_told None = []
+name_told (Some n) = says how.Asked (codes "session_name") (Word n.name) ∷ []
 
--- the names of the bits that are set, where names are asked for
-abbrev pub attributes_behind : (names : Bool) → ℕ → List ℕ
-attributes_behind false attributes = []
-attributes_behind true attributes = lines_from name_behind_number 1 (attributes_set attributes)
+abbrev pub handle_told : Option ℕ → List Piece
+handle_told None = []
+handle_told (Some handle) =
+    says how.Behind (codes "session") (Bytes (to_be_bytes w32 handle)) ∷ name_told (handle_named handle)
 
-abbrev pub handle_in_line : (names : Bool) → Option ℕ → List ℕ
-handle_in_line names None = []
-handle_in_line names (Some handle) = hexadecimal 8 handle ++ (handle_behind names handle ++ codes " ")
+-- the names of bits, with commas between them
+abbrev pub names_from : How → List Named → List Piece
+names_from h [] = []
+names_from h (bit ∷ bits) = Says h None (Word bit.name) ∷ names_from how.FurtherAsked bits
 
-unfoldable pub attributes_word : ℕ → List ℕ
-attributes_word attributes = codes " attributes " ++ hexadecimal 2 attributes
+-- the attributes, and the names of those that are set
+unfoldable pub attributes_told : ℕ → List Piece
+attributes_told attributes = says how.Under (codes "attributes") (Bytes (attributes ∷ []))
+    ∷ list_told (codes "attribute_names") (names_from how.Asked (attributes_set attributes))
 
-abbrev pub attributes_in_line : (names : Bool) → ℕ → List ℕ
-attributes_in_line names attributes = attributes_word attributes ++ attributes_behind names attributes
+-- its number, which a line has, and its members
+unfoldable pub session_begins : ℕ → List Piece
+session_begins i = Opens None shape.Object ∷ words (codes "session") ∷ InLine how.Behind (Number i) ∷ []
 
-unfoldable pub session_line : (names : Bool) → ℕ → ShownSession → List ℕ
-session_line names i s = codes "session "
-    ++ (decimal i ++ (codes " " ++ (handle_in_line names s.handle ++ (codes "nonce " ++ (bytes_text s.nonce
-    ++ (attributes_in_line names s.attributes ++ (codes " hmac " ++ (bytes_text s.hmac ++ codes "\n"))))))))
+unfoldable pub session_ends : (hmac : List ℕ) → List Piece
+session_ends hmac = says how.Under (codes "hmac") (Bytes hmac) ∷ line_end ∷ Closes shape.Object ∷ []
 
--- ---- an object
+unfoldable pub session_told : ℕ → ShownSession → List Piece
+session_told i s = session_begins i ++ (handle_told s.handle
+    ++ says how.Under (codes "nonce") (Bytes s.nonce) ∷ (attributes_told s.attributes ++ session_ends s.hmac))
 
-abbrev pub handle_in_object : Option ℕ → List Token
-handle_in_object None = []
-handle_in_object (Some handle) =
-    text_member (codes "session") (hexadecimal 8 handle) ++ name_member (codes "session_name") (handle_named handle)
+abbrev pub sessions_from : ℕ → List ShownSession → List Piece
+sessions_from i [] = []
+sessions_from i (s ∷ ss) = session_told i s ++ sessions_from (i + 1) ss
 
-abbrev pub bit_name : Named → Token
-bit_name bit = string bit.name
-
--- the attributes, and the names of the bits that are set
-unfoldable pub attributes_members : ℕ → List Token
-attributes_members attributes =
-    text_member (codes "attributes") (hexadecimal 2 attributes)
-    ++ list_member (codes "attribute_names") (map bit_name (attributes_set attributes))
-
-unfoldable pub session_members : ShownSession → List Token
-session_members s = handle_in_object s.handle
-    ++ (hex_member (codes "nonce") s.nonce
-    ++ (attributes_members s.attributes ++ hex_member (codes "hmac") s.hmac))
+abbrev pub sessions_told : List ShownSession → List Piece
+sessions_told sessions = list_told (codes "sessions") (sessions_from 1 sessions)

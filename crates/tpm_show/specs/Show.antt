@@ -18,10 +18,10 @@ use Rattle.tpm_output.specs.declared.status.Status.{Status}
 use Rattle.tpm_output.specs.Text.{line, not_hexadecimal_line}
 use Rattle.tpm_show.specs.Areas.{command_rest, reply_rest}
 use Rattle.tpm_show.specs.Digits.{buffer_in}
-use Rattle.tpm_show.specs.FrameLines.{in_lines, verdict_line}
+use Rattle.tpm_show.specs.FrameLines.{in_lines}
 use Rattle.tpm_show.specs.Refusals.{Buffer, CommandBytes, ReplyBytes, IsFault, buffer_head, is_buffer_beyond}
-use Rattle.tpm_show.specs.Refusals.{refused_told, status_if}
-use Rattle.tpm_show.specs.ReplyText.{reply_line, reply_code_line}
+use Rattle.tpm_show.specs.Refusals.{refusal_told, refused_told, status_if}
+use Rattle.tpm_show.specs.ReplyText.{code_alone_told, reply_line}
 
 -- ---- lines
 
@@ -36,7 +36,7 @@ command_lines fields size areas body =
 
 -- a response to this command, of so many bytes
 unfoldable pub response_lines : (fields : Bool) → CommandCode → ℕ → ReplyCut → Response → List ℕ
-response_lines fields code size r (responses.Code n) = reply_code_line fields n
+response_lines fields code size r (responses.Code n) = in_lines fields (code_alone_told n)
 response_lines fields code size r (responses.Done body auths) =
     reply_line code size ++ in_lines fields (reply_rest fields r body)
 
@@ -54,7 +54,7 @@ ShowsSpelled fields (ReplyBytes code bytes) text =
 -- Without fields a fault is a line alone, and with them what a capture tells of the same frame.
 abbrev pub ShowsRefused : (fields : Bool) → Buffer → Refusal → Status → List ℕ → Type 0
 ShowsRefused false buffer refusal status text =
-    (status ≡ Refused) × (text ≡ verdict_line false false refusal)
+    (status ≡ Refused) × (text ≡ in_lines false (refusal_told false refusal))
 ShowsRefused true buffer refusal status text =
     (status ≡ status_if (is_buffer_beyond buffer refusal))
     × (text ≡ in_lines true (buffer_head buffer ++ refused_told buffer refusal))

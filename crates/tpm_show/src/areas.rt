@@ -1,13 +1,32 @@
 //! What stands behind the header of a frame.
 
 ghost use Rattle.std.specs.Prelude.{◌≡◌, ◌++◌, OnOk, flat_map};
-ghost use Rattle.tpm_show.specs.Areas.{areas_told, reply_areas_told};
+ghost use Rattle.tpm_show.specs.Areas.{areas_told, parameters_told, reply_areas_told};
 
+use crate::handle_names::tell_handles;
+use crate::piece::{How, LINE_END, Piece, Value};
 use crate::sessions::{HasSessions, tell_sessions};
-use crate::teller::Teller;
+use crate::teller::{Teller, tell_all};
 use tpm_output::text::Pushed;
 
+/// Tells parameters as they came.
+#[tactic(auto, unfolding(crate::specs::Areas::parameters_told))]
+pub(crate) fn tell_parameters<T: Teller>(teller: &mut T, bytes: &[u8]) -> Pushed
+    ensures { OnOk result
+        (T.told teller.new ≡ T.told teller.old ++ flat_map T.marks (parameters_told bytes.now)) }
+{
+    tell_all(
+        teller,
+        &[
+            Piece::InLine(How::Alone, Value::Word("parameters")),
+            Piece::Says(How::Behind, Some("parameters"), Value::Bytes(bytes)),
+            LINE_END,
+        ],
+    )
+}
+
 /// Tells what stands behind a command's header: its handles, its sessions, and its parameters as they came.
+#[tactic(auto, using(crate::proofs::Pieces::pieces))]
 pub(crate) fn tell_areas<A: HasSessions, T: Teller>(
     teller: &mut T,
     handles: &[u32],
@@ -17,12 +36,13 @@ pub(crate) fn tell_areas<A: HasSessions, T: Teller>(
     ensures { OnOk result (T.told teller.new ≡ T.told teller.old
         ++ flat_map T.marks (areas_told handles.now (A.sessions sessions.now) params.now)) }
 {
-    teller.handles(handles)?;
+    tell_handles(teller, handles)?;
     tell_sessions(teller, sessions)?;
-    teller.parameters(params)
+    tell_parameters(teller, params)
 }
 
 /// Tells what stands behind a response's header: its handles, its parameters as they came, and its sessions.
+#[tactic(auto, using(crate::proofs::Pieces::pieces))]
 pub(crate) fn tell_reply_areas<A: HasSessions, T: Teller>(
     teller: &mut T,
     handles: &[u32],
@@ -32,7 +52,7 @@ pub(crate) fn tell_reply_areas<A: HasSessions, T: Teller>(
     ensures { OnOk result (T.told teller.new ≡ T.told teller.old
         ++ flat_map T.marks (reply_areas_told handles.now params.now (A.sessions sessions.now))) }
 {
-    teller.handles(handles)?;
-    teller.parameters(params)?;
+    tell_handles(teller, handles)?;
+    tell_parameters(teller, params)?;
     tell_sessions(teller, sessions)
 }

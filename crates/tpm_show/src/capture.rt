@@ -1,7 +1,7 @@
 //! The subcommand `show` of a capture in lines.
 
 ghost use Rattle.std.specs.Prelude.{◌≡◌, ◌+◌, ◌^◌, ◌<◌, ◌≤◌, ◌++◌, ℕ, List, None, IfOk, OnOk, IsErrOf};
-ghost use Rattle.std.specs.Prelude.{string_bytes};
+ghost use Rattle.std.specs.Prelude.{flat_map, string_bytes};
 ghost use Rattle.std.specs.Io.KnownBytes.{Appends, Consumes};
 ghost use Rattle.tpm_wire.specs.Sources.{IsWhereItFailed};
 ghost use Rattle.tpm_output.specs.declared.fault.ToolFault.TheVariants.{InputTooLong, Read};
@@ -12,10 +12,10 @@ ghost use Rattle.tpm_show.specs.declared.capture_frames.Awaited.TheVariants.{Unk
 ghost use Rattle.tpm_show.specs.Capture.{Frame, frame_at, start, TellsCapture, TellsFrame, ReadsAll};
 ghost use Rattle.tpm_show.specs.Capture.{ReadsTooMuchCapture, TellsEnded};
 ghost use Rattle.tpm_show.specs.inner.Capturing.{frame_as, read_as, place, Passes, TellsNext};
-ghost use Rattle.tpm_show.specs.Members.{object_of};
+ghost use Rattle.tpm_show.specs.FrameJson.{object_of};
 ghost use Rattle.tpm_show.specs.Pieces.{Piece};
-ghost use Rattle.tpm_show.specs.Reports.{IsObjectLine, IsReport, fault_report, frame_report, front, front_members};
-ghost use Rattle.tpm_show.specs.Reports.{kind_of};
+ghost use Rattle.tpm_show.specs.Reports.{IsObjectLine, IsReport, fault_report, frame_report, front};
+ghost use Rattle.tpm_show.specs.Reports.{kind_of, mark_of};
 
 use crate::capture_frames::{Awaited, FrameAt, awaited_behind, direction_of, tell_frame};
 use crate::capture_lines::{Direction, Line, MOST_LINE, read_line};
@@ -23,8 +23,10 @@ use crate::digits::is_blank;
 use crate::lines::Lines;
 use crate::object::Object;
 use crate::passage::Passage;
+use crate::piece::{How, Piece as PieceInCode, Value};
 use crate::remark::Remark;
 use crate::reports::push_remark;
+use crate::teller::{Teller, tell_all};
 use crate::telling::Telling;
 use std::alloc::{AllocError, Global};
 use std::io::Write;
@@ -51,14 +53,12 @@ pub(crate) struct Capture {
     pub(crate) status: Status,
 }
 
-// Adds the number of a frame, and which way it went.
-fn push_front(text: &mut String, number: u64, direction: Direction) -> Pushed
-    ensures { OnOk result
-        (string_bytes text.new ≡ string_bytes text.old ++ front number direction) }
+fn mark_of(direction: Direction) -> &'static str
+    ensures { result.now ≡ mark_of direction }
 {
     match direction {
-        Direction::Command => write!(text, "{number} > "),
-        Direction::Reply => write!(text, "{number} < "),
+        Direction::Command => ">",
+        Direction::Reply => "<",
     }
 }
 
@@ -71,13 +71,21 @@ fn kind_of(direction: Direction) -> &'static str
     }
 }
 
-// Adds the same as members.
-fn tell_front(object: &mut Object, number: u64, direction: Direction) -> Pushed
-    ensures { OnOk result (object.new.writer.tokens
-        ≡ object.old.writer.tokens ++ front_members number direction) }
+// Tells the number of a frame, and which way it went.
+#[tactic(auto, unfolding(crate::specs::Reports::front))]
+fn tell_front<T: Teller>(teller: &mut T, number: u64, direction: Direction) -> Pushed
+    ensures { OnOk result (T.told teller.new
+        ≡ T.told teller.old ++ flat_map T.marks (front number direction)) }
 {
-    object.number_member("number", number)?;
-    object.text_member("kind", kind_of(direction))
+    tell_all(
+        teller,
+        &[
+            PieceInCode::Says(How::Alone, Some("number"), Value::Number(number)),
+            PieceInCode::InLine(How::Behind, Value::Word(mark_of(direction))),
+            PieceInCode::Says(How::Nowhere, Some("kind"), Value::Word(kind_of(direction))),
+            PieceInCode::InLine(How::Alone, Value::Word(" ")),
+        ],
+    )
 }
 
 impl Capture {
@@ -130,6 +138,7 @@ impl Capture {
     }
 
     // Adds the lines of a frame.
+    #[tactic(auto, using(crate::proofs::Pieces::pieces))]
     fn push_lines<const FIELDS: bool>(
         &self,
         alloc: Global,
@@ -144,14 +153,14 @@ impl Capture {
             ++ (frame_report FIELDS self.now.number direction pieces).lines)) }
     {
         let mut lines = Lines::<FIELDS>::new(alloc);
+        tell_front(&mut lines, self.number, direction)?;
         let status = tell_frame(&mut lines, direction, self.frame_at(bytes))?;
-        push_front(text, self.number, direction)?;
         text.push_str(lines.text.as_str())?;
         Ok(status)
     }
 
     // Adds the object of a frame.
-    #[tactic(auto, using(std::proofs::Common::append_assoc), unfolding(crate::specs::Members::object_of))]
+    #[tactic(auto, using(crate::proofs::Pieces::pieces), unfolding(crate::specs::FrameJson::object_of))]
     fn push_object(
         &self,
         alloc: Global,

@@ -1,12 +1,12 @@
 //! The frames of a capture.
 
-ghost use Rattle.std.specs.Prelude.{◌≡◌, ◌++◌, [], ◌∷◌, List, IfOk, Some, flat_map};
+ghost use Rattle.std.specs.Prelude.{◌≡◌, ◌++◌, List, IfOk, Some, flat_map};
 ghost use Rattle.tpm_show.specs.Capture.{answered_code, awaited_behind, code_number_in, direction_of, is_code_alone};
-ghost use Rattle.tpm_show.specs.Capture.{is_response, TellsFrame, TellsOther, TellsRest};
+ghost use Rattle.tpm_show.specs.Capture.{is_response, untold, TellsFrame, TellsOther, TellsRest};
 ghost use Rattle.tpm_show.specs.inner.Capturing.{frame_as};
 ghost use Rattle.tpm_show.specs.CommandNames.{command_of};
 ghost use Rattle.tpm_show.specs.inner.CommandNames.{listed_as};
-ghost use Rattle.tpm_show.specs.Pieces.{Piece, Untold};
+ghost use Rattle.tpm_show.specs.Pieces.{Piece};
 ghost use Rattle.tpm_show.specs.Refusals.{CommandBytes, ReplyBytes, TellsBuffer};
 ghost use Rattle.tpm_output.specs.declared.status.Status.TheVariants.{Refused};
 
@@ -15,10 +15,11 @@ use crate::command_names::{Listed, command_of};
 use crate::frame_header::{FrameHeader, header_in};
 use crate::library::library_response;
 use crate::passage::{Passage, tell_passage};
+use crate::piece::{How, LINE_END, Piece as PieceInCode, Value};
 use crate::refused::{
     status_if, tell_head, tell_refused_command, tell_refused_reply, tell_response_areas,
 };
-use crate::teller::Teller;
+use crate::teller::{Teller, tell_all};
 use crate::told::{command_and_areas, response_and_areas, tell_command_rest, tell_response_rest};
 use std::alloc::AllocError;
 use tpm_output::status::Status;
@@ -142,12 +143,18 @@ fn tell_reply_to<T: Teller>(
 }
 
 // Tells why a reply is not told.
-#[tactic(auto, using(crate::proofs::Pieces::pieces))]
+#[tactic(auto, unfolding(crate::specs::Capture::untold))]
 fn tell_untold<T: Teller>(teller: &mut T, sentence: &str) -> Result<Status, AllocError>
     ensures { IfOk result (λ status. (status ≡ Refused)
-        × (T.told teller.new ≡ T.told teller.old ++ flat_map T.marks (Untold sentence.now ∷ []))) }
+        × (T.told teller.new ≡ T.told teller.old ++ flat_map T.marks (untold sentence.now))) }
 {
-    teller.untold(sentence)?;
+    tell_all(
+        teller,
+        &[
+            PieceInCode::Says(How::Alone, Some("fault"), Value::Word(sentence)),
+            LINE_END,
+        ],
+    )?;
     Ok(Status::Refused)
 }
 

@@ -2,8 +2,10 @@
 
 ghost use Rattle.std.specs.Prelude.{◌≡◌, ◌++◌, ◌≤◌, List, OnOk, flat_map, length};
 ghost use Rattle.tpm_wire.specs.Spelling.{spelling};
-ghost use Rattle.tpm_show.specs.Pieces.{Piece, Value, structure_told};
+ghost use Rattle.tpm_show.specs.FieldText.{structure_told, value_told};
+ghost use Rattle.tpm_show.specs.Pieces.{Piece};
 
+use crate::field_text::{begin_structure, end_structure, tell_value};
 use crate::teller::Teller;
 use std::marker::Model;
 use tpm_output::text::Pushed;
@@ -29,7 +31,7 @@ pub(crate) struct Field(
 );
 
 impl Model for Field {
-    ghost use Rattle.tpm_show.specs.Pieces.{named};
+    ghost use Rattle.tpm_commands.specs.Row.{named};
     ghost use Rattle.tpm_show.specs.inner.Pieces.{IndentedField};
 
     ghost Value = { IndentedField };
@@ -50,21 +52,22 @@ impl Field {
     /// Tells it of this value.
     pub(crate) fn tell<T: Teller, V: Wire>(self, teller: &mut T, value: &V) -> Pushed
         requires { length (spelling V.layout value.now) ≤ 4096 }
-        ensures { OnOk result (T.told teller.new ≡ T.told teller.old ++ T.marks (Value
-            self.indent self.named (spelling V.layout value.now))) }
+        ensures { OnOk result (T.told teller.new ≡ T.told teller.old ++ flat_map T.marks
+            (value_told self.indent self.named (spelling V.layout value.now))) }
     {
-        teller.value(self, spelled(value).as_slice())
+        tell_value(teller, self, spelled(value).as_slice())
     }
 
     /// Tells it of this value, with its parts.
+    #[tactic(auto, using(crate::proofs::Pieces::pieces))]
     pub(crate) fn tell_structure<T: Teller, V: HasParts>(self, teller: &mut T, value: &V) -> Pushed
         requires { length (spelling V.layout value.now) ≤ 4096 }
         ensures { OnOk result (T.told teller.new ≡ T.told teller.old
             ++ flat_map T.marks (structure_told self.indent self.named
             (spelling V.layout value.now) (V.told_parts value.now))) }
     {
-        teller.begin_structure(self, spelled(value).as_slice())?;
+        begin_structure(teller, self, spelled(value).as_slice())?;
         value.tell_parts(teller)?;
-        teller.end_structure()
+        end_structure(teller)
     }
 }

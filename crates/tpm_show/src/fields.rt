@@ -4,29 +4,41 @@ ghost use Rattle.std.specs.Prelude.{◌≡◌, ◌++◌, OnOk, codes, flat_map};
 ghost use Rattle.tpm_wire.specs.Spelling.{spelling};
 ghost use Rattle.tpm_wire.specs.Structures.{sized_bytes};
 ghost use Rattle.tpm_commands.specs.Events.{event_bytes};
+ghost use Rattle.tpm_commands.specs.Row.{named};
 ghost use Rattle.tpm_show.specs.Fields.{command_fields, reply_fields};
-ghost use Rattle.tpm_show.specs.Pieces.{Value, named};
+ghost use Rattle.tpm_show.specs.FieldText.{value_told};
 
 use crate::field::Field;
+use crate::field_text::tell_value;
 use crate::teller::Teller;
 use tpm_commands::{CommandBody, Event, ReplyBody, StartAuth};
 use tpm_output::text::Pushed;
 use tpm_types::EncryptedSalt;
 use tpm_wire::{Buffer, Wire, put_bytes};
 
-// Tells an event, which is lent.
+// How an event is spelled, which is lent.
 #[tactic(auto, unfolding(tpm_wire::specs::Structures::sized_bytes))]
-fn tell_event<T: Teller>(teller: &mut T, event: &Event<'_>) -> Pushed
-    ensures { OnOk result
-        (T.told teller.new ≡ T.told teller.old ++ T.marks (Value (codes "  ")
-        (named (codes "eventData") (codes "TPM2B_EVENT"))
-        (spelling (sized_bytes event_bytes) event.now))) }
+fn spelled_event(event: &Event<'_>) -> Buffer
+    ensures { result.items ≡ spelling (sized_bytes event_bytes) event.now }
 {
     let event = event.as_slice();
     let mut bytes = Buffer::new();
     (event.len() as u16).put(&mut bytes);
     put_bytes(&mut bytes, event);
-    teller.value(Field("  ", "eventData", "TPM2B_EVENT"), bytes.as_slice())
+    bytes
+}
+
+fn tell_event<T: Teller>(teller: &mut T, event: &Event<'_>) -> Pushed
+    ensures { OnOk result
+        (T.told teller.new ≡ T.told teller.old ++ flat_map T.marks (value_told (codes "  ")
+        (named (codes "eventData") (codes "TPM2B_EVENT"))
+        (spelling (sized_bytes event_bytes) event.now))) }
+{
+    tell_value(
+        teller,
+        Field("  ", "eventData", "TPM2B_EVENT"),
+        spelled_event(event).as_slice(),
+    )
 }
 
 /// Tells each parameter of a command: its name, its type and its bytes (Part 3, the table of the command), and what

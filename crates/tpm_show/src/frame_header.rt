@@ -1,21 +1,17 @@
 //! The header of a frame, whatever a profile has of it.
 
-ghost use Rattle.std.specs.Prelude.{◌≡◌, ◌++◌, IfOk, OnOk, Some, codes, option_map, string_bytes};
+ghost use Rattle.std.specs.Prelude.{◌≡◌, ◌++◌, IfOk, OnOk, flat_map, option_map, string_bytes};
 ghost use Rattle.tpm_wire.specs.Buffers.{Takes};
 ghost use Rattle.tpm_output.specs.Named.{named_as, named_in};
 ghost use Rattle.tpm_names.specs.Codes.{code_name, meaning_of};
 ghost use Rattle.tpm_names.specs.Meanings.{meaning_as};
-ghost use Rattle.tpm_show.specs.Members.{name_member, number_member, text_member};
-ghost use Rattle.tpm_show.specs.Headers.{frame_header, header_in, tag_names, tag_behind, name_behind};
-ghost use Rattle.tpm_show.specs.Headers.{command_name, code_behind, code_named, code_name_member};
-ghost use Rattle.tpm_show.specs.Headers.{size_and_tag};
-ghost use Rattle.tpm_show.specs.Headers.{command_head, answered, reply_head, size_and_tag_members, command_member};
-ghost use Rattle.tpm_show.specs.Headers.{command_head_members, answered_member, reply_head_members};
+ghost use Rattle.tpm_show.specs.Headers.{answered, code_behind, code_in_line, code_told, command_head, command_told};
+ghost use Rattle.tpm_show.specs.Headers.{frame_header, header_in, reply_head, size_and_tag, tag_name, tag_names};
 
 use crate::command_names::command_of;
 use crate::explained::push_subject;
-use crate::hex_digits::{eight_digits, four_digits, three_digits};
-use crate::object::Object;
+use crate::piece::{How, LINE_END, Piece, Value};
+use crate::teller::{Teller, tell_all};
 use std::alloc::{AllocError, Global};
 use tpm_names::codes::code_meaning;
 use tpm_names::meaning::Meaning;
@@ -66,45 +62,7 @@ pub(crate) fn header_in(bytes: &[u8]) -> Option<FrameHeader>
     }
 }
 
-// ---- in a line
-
-/// Adds a name behind its number, where there is one.
-pub(crate) fn push_name_behind(text: &mut String, named: Option<&'static Named>) -> Pushed
-    ensures { OnOk result (string_bytes text.new
-        ≡ string_bytes text.old ++ name_behind (option_map (λ n. named_as n.now) named.entry)) }
-{
-    let Some(named) = named else {
-        return Ok(());
-    };
-    let name = named.name;
-    write!(text, " {name}")
-}
-
-fn push_known_tag(text: &mut String, tag: u16) -> Pushed
-    ensures { OnOk result
-        (string_bytes text.new ≡ string_bytes text.old ++ name_behind (named_in tag_names tag)) }
-{
-    push_name_behind(text, look_up(&TAG_NAMES, tag as u32))
-}
-
-fn push_tag_name(text: &mut String, names: bool, tag: u16) -> Pushed
-    ensures { OnOk result (string_bytes text.new ≡ string_bytes text.old ++ tag_behind names tag) }
-{
-    if !names {
-        return Ok(());
-    }
-    push_known_tag(text, tag)
-}
-
-#[tactic(auto, using(tpm_output::proofs::Padded::padded), unfolding(crate::specs::Headers::command_name))]
-fn push_command_name(text: &mut String, code: u32) -> Pushed
-    ensures { OnOk result (string_bytes text.new ≡ string_bytes text.old ++ command_name code) }
-{
-    match command_of(code) {
-        Some(command) => text.push_str(command.name),
-        None => write!(text, "{code:08x}"),
-    }
-}
+// ---- the name of a response code
 
 #[tactic(auto, using(std::proofs::Common::append_assoc))]
 fn push_meaning_name(text: &mut String, code: u32, meaning: &Meaning) -> Pushed
@@ -129,164 +87,143 @@ pub(crate) fn push_code_name(text: &mut String, code: u32) -> Pushed
     push_meaning_name(text, code, meaning)
 }
 
-/// The same, where names are asked for.
-pub(crate) fn push_code_named(text: &mut String, names: bool, code: u32) -> Pushed
-    ensures { OnOk result (string_bytes text.new ≡ string_bytes text.old ++ code_named names code) }
-{
-    if !names {
-        return Ok(());
-    }
-    push_code_name(text, code)
-}
-
-#[tactic(auto, using(tpm_output::proofs::Padded::padded), unfolding(crate::specs::Headers::size_and_tag))]
-fn push_size_and_tag(text: &mut String, names: bool, header: &FrameHeader) -> Pushed
-    ensures { OnOk result
-        (string_bytes text.new ≡ string_bytes text.old ++ size_and_tag names header.now) }
-{
-    let FrameHeader { tag, size, .. } = *header;
-    write!(text, " size {size} tag {tag:04x}")?;
-    push_tag_name(text, names, tag)
-}
-
-/// Adds the line of a command's header.
-#[tactic(auto, unfolding(crate::specs::Headers::command_head))]
-pub(crate) fn push_command_head(text: &mut String, names: bool, header: &FrameHeader) -> Pushed
-    ensures { OnOk result
-        (string_bytes text.new ≡ string_bytes text.old ++ command_head names header.now) }
-{
-    text.push_str("command ")?;
-    push_command_name(text, header.code)?;
-    push_size_and_tag(text, names, header)?;
-    text.push_str("\n")
-}
-
-#[tactic(auto, using(std::proofs::Common::append_assoc))]
-fn push_answered(text: &mut String, command: Option<u32>) -> Pushed
-    ensures { OnOk result (string_bytes text.new ≡ string_bytes text.old ++ answered command) }
-{
-    let Some(code) = command else {
-        return Ok(());
-    };
-    text.push_str(" ")?;
-    push_command_name(text, code)
-}
-
-/// Adds the line of the header of a reply to this command.
-#[tactic(auto, using(tpm_output::proofs::Padded::padded), unfolding(crate::specs::Headers::reply_head))]
-pub(crate) fn push_reply_head(
-    text: &mut String,
-    names: bool,
-    command: Option<u32>,
-    header: &FrameHeader,
-) -> Pushed
-    ensures { OnOk result
-        (string_bytes text.new ≡ string_bytes text.old ++ reply_head names command header.now) }
-{
-    text.push_str("reply")?;
-    push_answered(text, command)?;
-    push_size_and_tag(text, names, header)?;
-    let code = header.code;
-    write!(text, " code {code:03x}")?;
-    push_code_name(text, code)?;
-    text.push_str("\n")
-}
-
-// ---- in an object
-
-// The name of a command of the library, or the number of any other.
-fn command_name(alloc: Global, code: u32) -> Result<String, AllocError>
-    ensures { IfOk result (λ name. string_bytes name ≡ command_name code) }
+fn meaning_name(alloc: Global, code: u32, meaning: &Meaning) -> Result<String, AllocError>
+    ensures { IfOk result (λ name. string_bytes name ≡ code_name code (meaning_as meaning.now)) }
 {
     let mut name = String::new(alloc);
-    push_command_name(&mut name, code)?;
+    push_meaning_name(&mut name, code, meaning)?;
     Ok(name)
 }
 
-fn tell_known_code(object: &mut Object, member: &str, code: u32, meaning: &Meaning) -> Pushed
-    ensures { OnOk result (object.new.writer.tokens ≡ object.old.writer.tokens
-        ++ code_name_member member.now (Some (meaning_as meaning.now)) code) }
-{
-    let mut name = String::new(object.alloc);
-    push_meaning_name(&mut name, code, meaning)?;
-    object.text_member(member, name.as_str())
-}
-
-/// Adds the name of a response code under this member, where it has one.
-pub(crate) fn tell_code_name(object: &mut Object, member: &str, code: u32) -> Pushed
-    ensures { OnOk result (object.new.writer.tokens
-        ≡ object.old.writer.tokens ++ code_name_member member.now (meaning_of code) code) }
+/// Tells the name of a response code under this name, where it has one.
+pub(crate) fn tell_code_name<T: Teller>(teller: &mut T, how: How, member: &str, code: u32) -> Pushed
+    ensures { OnOk result (T.told teller.new ≡ T.told teller.old
+        ++ flat_map T.marks (code_told how member.now (meaning_of code) code)) }
 {
     let Some(meaning) = code_meaning(code) else {
         return Ok(());
     };
-    tell_known_code(object, member, code, meaning)
+    let name = meaning_name(teller.alloc(), code, meaning)?;
+    teller.tell(&Piece::Says(how, Some(member), Value::Word(name.as_str())))
 }
 
-fn tell_tag_name(object: &mut Object, tag: u16) -> Pushed
-    ensures { OnOk result (object.new.writer.tokens ≡ object.old.writer.tokens
-        ++ name_member (codes "tag_name") (named_in tag_names tag)) }
+/// Tells the same in a line alone, where names are asked for.
+pub(crate) fn tell_code_in_line<T: Teller>(teller: &mut T, code: u32) -> Pushed
+    ensures { OnOk result (T.told teller.new
+        ≡ T.told teller.old ++ flat_map T.marks (code_in_line (meaning_of code) code)) }
 {
-    object.name_member("tag_name", look_up(&TAG_NAMES, tag as u32))
+    let Some(meaning) = code_meaning(code) else {
+        return Ok(());
+    };
+    let name = meaning_name(teller.alloc(), code, meaning)?;
+    teller.tell(&Piece::InLine(How::Asked, Value::Word(name.as_str())))
 }
 
-#[tactic(auto, unfolding(crate::specs::Headers::size_and_tag_members))]
-fn tell_size_and_tag(object: &mut Object, header: &FrameHeader) -> Pushed
-    ensures { OnOk result (object.new.writer.tokens
-        ≡ object.old.writer.tokens ++ size_and_tag_members header.now) }
+// ---- a header
+
+fn tag_name(tag: u16) -> Option<&'static Named>
+    ensures { option_map (λ n. named_as n.now) result ≡ named_in tag_names tag }
 {
-    let FrameHeader { tag, size, .. } = *header;
-    let digits = four_digits(object.alloc, tag)?;
-    object.number_member("size", u64::from(size))?;
-    object.text_member("tag", digits.as_str())?;
-    tell_tag_name(object, tag)
+    look_up(&TAG_NAMES, tag as u32)
 }
 
-fn tell_command_member(object: &mut Object, code: u32) -> Pushed
-    ensures { OnOk result (object.new.writer.tokens
-        ≡ object.old.writer.tokens ++ command_member code) }
+fn tell_tag_name<T: Teller>(teller: &mut T, tag: u16) -> Pushed
+    ensures { OnOk result (T.told teller.new
+        ≡ T.told teller.old ++ flat_map T.marks (tag_name (named_in tag_names tag))) }
 {
-    let name = command_name(object.alloc, code)?;
-    object.text_member("command", name.as_str())
-}
-
-/// Adds the members of a command's header.
-#[tactic(auto, unfolding(crate::specs::Headers::command_head_members))]
-pub(crate) fn tell_command_head(object: &mut Object, header: &FrameHeader) -> Pushed
-    ensures { OnOk result (object.new.writer.tokens
-        ≡ object.old.writer.tokens ++ command_head_members header.now) }
-{
-    let code = header.code;
-    let digits = eight_digits(object.alloc, code)?;
-    tell_command_member(object, code)?;
-    tell_size_and_tag(object, header)?;
-    object.text_member("command_code", digits.as_str())
-}
-
-fn tell_answered(object: &mut Object, command: Option<u32>) -> Pushed
-    ensures { OnOk result (object.new.writer.tokens
-        ≡ object.old.writer.tokens ++ answered_member command) }
-{
-    match command {
-        Some(code) => tell_command_member(object, code),
+    match tag_name(tag) {
+        Some(named) => teller.tell(&Piece::Says(
+            How::Asked,
+            Some("tag_name"),
+            Value::Word(named.name),
+        )),
         None => Ok(()),
     }
 }
 
-/// Adds the members of the header of a reply to this command.
-#[tactic(auto, unfolding(crate::specs::Headers::reply_head_members))]
-pub(crate) fn tell_reply_head(
-    object: &mut Object,
+#[tactic(auto, using(crate::proofs::Pieces::pieces), unfolding(crate::specs::Headers::size_and_tag))]
+fn tell_size_and_tag<T: Teller>(teller: &mut T, header: &FrameHeader) -> Pushed
+    ensures { OnOk result (T.told teller.new
+        ≡ T.told teller.old ++ flat_map T.marks (size_and_tag header.now)) }
+{
+    let FrameHeader { tag, size, .. } = *header;
+    tell_all(
+        teller,
+        &[
+            Piece::Says(How::Under, Some("size"), Value::Number(u64::from(size))),
+            Piece::Says(How::Under, Some("tag"), Value::Bytes(&tag.to_be_bytes())),
+        ],
+    )?;
+    tell_tag_name(teller, tag)
+}
+
+// Tells the name of a command of the library, or the number of any other.
+fn tell_command<T: Teller>(teller: &mut T, code: u32) -> Pushed
+    ensures { OnOk result
+        (T.told teller.new ≡ T.told teller.old ++ T.marks (command_told code)) }
+{
+    match command_of(code) {
+        Some(command) => teller.tell(&Piece::Says(
+            How::Behind,
+            Some("command"),
+            Value::Word(command.name),
+        )),
+        None => teller.tell(&Piece::Says(
+            How::Behind,
+            Some("command"),
+            Value::Bytes(&code.to_be_bytes()),
+        )),
+    }
+}
+
+/// Tells the header of a command.
+#[tactic(auto, using(crate::proofs::Pieces::pieces), unfolding(crate::specs::Headers::command_head))]
+pub(crate) fn tell_command_head<T: Teller>(teller: &mut T, header: &FrameHeader) -> Pushed
+    ensures { OnOk result (T.told teller.new
+        ≡ T.told teller.old ++ flat_map T.marks (command_head header.now)) }
+{
+    let code = header.code;
+    teller.tell(&Piece::InLine(How::Alone, Value::Word("command")))?;
+    tell_command(teller, code)?;
+    tell_size_and_tag(teller, header)?;
+    tell_all(
+        teller,
+        &[
+            Piece::Says(
+                How::Nowhere,
+                Some("command_code"),
+                Value::Bytes(&code.to_be_bytes()),
+            ),
+            LINE_END,
+        ],
+    )
+}
+
+fn tell_answered<T: Teller>(teller: &mut T, command: Option<u32>) -> Pushed
+    ensures { OnOk result
+        (T.told teller.new ≡ T.told teller.old ++ flat_map T.marks (answered command)) }
+{
+    match command {
+        Some(code) => tell_command(teller, code),
+        None => Ok(()),
+    }
+}
+
+/// Tells the header of a reply to the command of this code.
+#[tactic(auto, using(crate::proofs::Pieces::pieces), unfolding(crate::specs::Headers::reply_head))]
+pub(crate) fn tell_reply_head<T: Teller>(
+    teller: &mut T,
     command: Option<u32>,
     header: &FrameHeader,
 ) -> Pushed
-    ensures { OnOk result (object.new.writer.tokens
-        ≡ object.old.writer.tokens ++ reply_head_members command header.now) }
+    ensures { OnOk result (T.told teller.new
+        ≡ T.told teller.old ++ flat_map T.marks (reply_head command header.now)) }
 {
     let code = header.code;
-    let digits = three_digits(object.alloc, code)?;
-    tell_answered(object, command)?;
-    tell_size_and_tag(object, header)?;
-    object.text_member("code", digits.as_str())?;
-    tell_code_name(object, "code_name", code)
+    teller.tell(&Piece::InLine(How::Alone, Value::Word("reply")))?;
+    tell_answered(teller, command)?;
+    tell_size_and_tag(teller, header)?;
+    teller.tell(&Piece::Says(How::Under, Some("code"), Value::Code(code)))?;
+    tell_code_name(teller, How::Behind, "code_name", code)?;
+    teller.tell(&LINE_END)
 }

@@ -1,15 +1,12 @@
-//! Handles by the names that Part 2 gives them, in lines or in lists of JSON.
+//! Handles by the names that Part 2 gives them.
 
-ghost use Rattle.std.specs.Prelude.{◌≡◌, ◌++◌, [], ◌∷◌, OnOk, codes, map, option_map, string_bytes};
+ghost use Rattle.std.specs.Prelude.{◌≡◌, ◌++◌, OnOk, flat_map, map, option_map};
 ghost use Rattle.tpm_output.specs.Named.{named_as};
-ghost use Rattle.tpm_show.specs.HandleNames.{handle_behind, handle_line, handle_lines, handle_name, handle_named};
-ghost use Rattle.tpm_show.specs.HandleNames.{handle_number, handles_members, name_or_null};
-ghost use Rattle.tpm_show.specs.Headers.{name_behind};
-ghost use Rattle.tpm_show.specs.Members.{list_begins, list_member};
+ghost use Rattle.tpm_show.specs.HandleNames.{handle_name, handle_named, handle_told, handles_from, handles_told};
+ghost use Rattle.tpm_show.specs.HandleNames.{name_in_line};
 
-use crate::frame_header::push_name_behind;
-use crate::hex_digits::eight_digits;
-use crate::object::Object;
+use crate::piece::{How, LINE_END, Piece, Shape, Value};
+use crate::teller::{Teller, tell_all};
 use tpm_output::named::{Named, look_up};
 use tpm_output::names;
 use tpm_output::text::Pushed;
@@ -73,119 +70,85 @@ pub(crate) fn handle_name(handle: u32) -> Option<&'static Named>
     }
 }
 
-// ---- in lines
+// ---- what is told of them
 
-fn push_handle_name(text: &mut String, handle: u32) -> Pushed
-    ensures { OnOk result (string_bytes text.new
-        ≡ string_bytes text.old ++ name_behind (handle_named handle)) }
+// Tells the name of a handle in a line alone.
+fn tell_name_in_line<T: Teller>(teller: &mut T, handle: u32) -> Pushed
+    ensures { OnOk result (T.told teller.new
+        ≡ T.told teller.old ++ flat_map T.marks (name_in_line (handle_named handle))) }
 {
-    push_name_behind(text, handle_name(handle))
-}
-
-/// Adds the name of a handle behind its number in a line, where names are asked for.
-pub(crate) fn push_handle_behind(text: &mut String, names: bool, handle: u32) -> Pushed
-    ensures { OnOk result
-        (string_bytes text.new ≡ string_bytes text.old ++ handle_behind names handle) }
-{
-    if !names {
-        return Ok(());
+    match handle_name(handle) {
+        Some(named) => teller.tell(&Piece::InLine(How::Asked, Value::Word(named.name))),
+        None => Ok(()),
     }
-    push_handle_name(text, handle)
 }
 
-#[tactic(auto, using(tpm_output::proofs::Padded::padded), unfolding(crate::specs::HandleNames::handle_line))]
-fn push_handle_line(text: &mut String, names: bool, i: usize, handle: u32) -> Pushed
+// Tells a handle, in a line of its own with its number and its name.
+#[tactic(auto, using(crate::proofs::Pieces::pieces), unfolding(crate::specs::HandleNames::handle_told))]
+fn tell_handle<T: Teller>(teller: &mut T, i: usize, handle: u32) -> Pushed
     ensures { OnOk result
-        (string_bytes text.new ≡ string_bytes text.old ++ handle_line names i handle) }
+        (T.told teller.new ≡ T.told teller.old ++ flat_map T.marks (handle_told i handle)) }
 {
-    write!(text, "handle {i} {handle:08x}")?;
-    push_handle_behind(text, names, handle)?;
-    text.push_str("\n")
+    tell_all(
+        teller,
+        &[
+            Piece::InLine(How::Alone, Value::Word("handle")),
+            Piece::InLine(How::Behind, Value::Number(i as u64)),
+            Piece::Says(How::Behind, None, Value::Bytes(&handle.to_be_bytes())),
+        ],
+    )?;
+    tell_name_in_line(teller, handle)?;
+    teller.tell(&LINE_END)
 }
 
-/// Adds the line of each handle.
-pub(crate) fn push_handles(text: &mut String, names: bool, handles: &[u32]) -> Pushed
-    ensures { OnOk result (string_bytes text.new
-        ≡ string_bytes text.old ++ handle_lines names handles.now) }
+#[tactic(auto, using(crate::proofs::Pieces::pieces))]
+fn tell_each<T: Teller>(teller: &mut T, handles: &[u32]) -> Pushed
+    ensures { OnOk result
+        (T.told teller.new ≡ T.told teller.old ++ flat_map T.marks (handles_from 1 handles.now)) }
 {
     for (before, handle) in handles.iter().enumerate() {
-        push_handle_line(text, names, before + 1, *handle)?;
+        tell_handle(teller, before + 1, *handle)?;
     }
     Ok(())
 }
 
-// ---- in an object
-
-fn tell_handle_number(object: &mut Object, handle: u32) -> Pushed
-    ensures { OnOk result (object.new.writer.tokens
-        ≡ object.old.writer.tokens ++ handle_number handle ∷ []) }
+// Tells the name of a handle as an entry of a list.
+fn tell_name<T: Teller>(teller: &mut T, handle: u32) -> Pushed
+    ensures { OnOk result
+        (T.told teller.new ≡ T.told teller.old ++ T.marks (handle_name handle)) }
 {
-    let digits = eight_digits(object.alloc, handle)?;
-    object.writer.string(digits.as_str())
+    match handle_name(handle) {
+        Some(named) => teller.tell(&Piece::Says(How::Nowhere, None, Value::Word(named.name))),
+        None => teller.tell(&Piece::Says(How::Nowhere, None, Value::Null)),
+    }
 }
 
-fn tell_numbers(object: &mut Object, handles: &[u32]) -> Pushed
-    ensures { OnOk result (object.new.writer.tokens
-        ≡ object.old.writer.tokens ++ map handle_number handles.now) }
+#[tactic(auto, using(crate::proofs::Pieces::pieces))]
+fn tell_names<T: Teller>(teller: &mut T, handles: &[u32]) -> Pushed
+    ensures { OnOk result (T.told teller.new
+        ≡ T.told teller.old ++ flat_map T.marks (map handle_name handles.now)) }
 {
     for handle in handles {
-        tell_handle_number(object, *handle)?;
+        tell_name(teller, *handle)?;
     }
     Ok(())
 }
 
-fn tell_name_or_null(object: &mut Object, named: Option<&'static Named>) -> Pushed
-    ensures { OnOk result (object.new.writer.tokens ≡ object.old.writer.tokens
-        ++ name_or_null (option_map (λ n. named_as n.now) named.entry) ∷ []) }
+/// Tells handles, and their names in a list of their own.
+#[tactic(auto, using(crate::proofs::Pieces::pieces), unfolding(crate::specs::HandleNames::handles_told))]
+pub(crate) fn tell_handles<T: Teller>(teller: &mut T, handles: &[u32]) -> Pushed
+    ensures { OnOk result
+        (T.told teller.new ≡ T.told teller.old ++ flat_map T.marks (handles_told handles.now)) }
 {
-    match named {
-        Some(named) => object.writer.string(named.name),
-        None => object.writer.null(),
-    }
-}
-
-fn tell_handle_name(object: &mut Object, handle: u32) -> Pushed
-    ensures { OnOk result (object.new.writer.tokens
-        ≡ object.old.writer.tokens ++ handle_name handle ∷ []) }
-{
-    tell_name_or_null(object, handle_name(handle))
-}
-
-fn tell_names(object: &mut Object, handles: &[u32]) -> Pushed
-    ensures { OnOk result (object.new.writer.tokens
-        ≡ object.old.writer.tokens ++ map handle_name handles.now) }
-{
-    for handle in handles {
-        tell_handle_name(object, *handle)?;
-    }
-    Ok(())
-}
-
-#[tactic(auto, unfolding(crate::specs::Members::list_member))]
-fn tell_numbers_member(object: &mut Object, handles: &[u32]) -> Pushed
-    ensures { OnOk result (object.new.writer.tokens ≡ object.old.writer.tokens
-        ++ list_member (codes "handles") (map handle_number handles.now)) }
-{
-    object.open_list("handles")?;
-    tell_numbers(object, handles)?;
-    object.writer.end_array()
-}
-
-#[tactic(auto, unfolding(crate::specs::Members::list_member))]
-fn tell_names_member(object: &mut Object, handles: &[u32]) -> Pushed
-    ensures { OnOk result (object.new.writer.tokens ≡ object.old.writer.tokens
-        ++ list_member (codes "handle_names") (map handle_name handles.now)) }
-{
-    object.open_list("handle_names")?;
-    tell_names(object, handles)?;
-    object.writer.end_array()
-}
-
-/// Adds the handles and their names as members.
-pub(crate) fn tell_handles(object: &mut Object, handles: &[u32]) -> Pushed
-    ensures { OnOk result (object.new.writer.tokens
-        ≡ object.old.writer.tokens ++ handles_members handles.now) }
-{
-    tell_numbers_member(object, handles)?;
-    tell_names_member(object, handles)
+    teller.tell(&Piece::Opens(Some("handles"), Shape::List))?;
+    tell_each(teller, handles)?;
+    tell_all(
+        teller,
+        &[
+            Piece::Closes(Shape::List),
+            Piece::Opens(Some("handle_names"), Shape::List),
+        ],
+    )?;
+    tell_names(teller, handles)?;
+    teller.tell(&Piece::Closes(Shape::List))
 }

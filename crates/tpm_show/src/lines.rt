@@ -1,19 +1,14 @@
 //! The lines of a frame.
 
-ghost use Rattle.std.specs.Prelude.{◌≡◌, ◌++◌, ℕ, OnOk, [], string_bytes};
-ghost use Rattle.tpm_show.specs.FrameLines.{line_of, verdict, verdict_line, verdict_words};
+ghost use Rattle.std.specs.Prelude.{◌≡◌, ◌++◌, ℕ, OnOk, [], option_map, string_bytes};
+ghost use Rattle.tpm_show.specs.FrameLines.{line_of, said, shown, under};
+ghost use Rattle.tpm_show.specs.inner.Pieces.{as_value};
+ghost use Rattle.tpm_output.specs.Numbers.{hexadecimal};
 
-use crate::field::Field;
-use crate::field_text::{push_field, push_number};
-use crate::frame_header::{FrameHeader, push_code_named, push_command_head, push_reply_head};
-use crate::handle_names::push_handles;
-use crate::passage::push_packet;
-use crate::sessions::{Session, push_session_line};
+use crate::piece::{How, Piece, Value};
 use crate::teller::Teller;
 use std::alloc::Global;
-use tpm_output::text::{Pushed, push_parameters};
-use tpm_pcap::Stamp;
-use tpm_wire::Refusal;
+use tpm_output::text::{Pushed, push_shown};
 
 /// Lines that are told, with the names of numbers behind these or without.
 #[derive(Drop)]
@@ -34,38 +29,68 @@ impl<const NAMES: bool> Lines<NAMES> {
     }
 }
 
-// ---- a fault
-
-fn verdict(beyond: bool) -> &'static str
-    ensures { result.now ≡ verdict beyond }
+/// Adds a response code in its digits.
+#[tactic(auto, using(tpm_output::proofs::Padded::padded))]
+pub(crate) fn push_code(text: &mut String, code: u32) -> Pushed
+    ensures { OnOk result (string_bytes text.new ≡ string_bytes text.old ++ hexadecimal 3 code) }
 {
-    if beyond {
-        "beyond this profile,"
-    } else {
-        "refused"
+    write!(text, "{code:03x}")
+}
+
+fn push_value(text: &mut String, value: &Value<'_>) -> Pushed
+    ensures { OnOk result
+        (string_bytes text.new ≡ string_bytes text.old ++ shown (as_value value.now)) }
+{
+    match value {
+        Value::Word(word) => text.push_str(word),
+        Value::Number(n) => write!(text, "{n}"),
+        Value::Code(code) => push_code(text, *code),
+        Value::Bytes(bytes) => push_shown(text, bytes),
+        Value::Null => Ok(()),
     }
 }
 
-fn push_verdict_words(text: &mut String, beyond: bool, refusal: &Refusal) -> Pushed
+// Adds a thing behind this.
+fn push_behind(text: &mut String, front: &str, value: &Value<'_>) -> Pushed
     ensures { OnOk result (string_bytes text.new
-        ≡ string_bytes text.old ++ verdict_words beyond refusal.now) }
+        ≡ string_bytes text.old ++ (front.now ++ shown (as_value value.now))) }
 {
-    let verdict = verdict(beyond);
-    let Refusal { code, at } = *refusal;
-    write!(text, "{verdict} {code:03x} at {at}")
+    text.push_str(front)?;
+    push_value(text, value)
 }
 
-// Adds the line of a fault, where names are asked for with that of its code.
-fn push_verdict(text: &mut String, names: bool, beyond: bool, refusal: &Refusal) -> Pushed
-    ensures { OnOk result (string_bytes text.new
-        ≡ string_bytes text.old ++ verdict_line names beyond refusal.now) }
+fn push_under(text: &mut String, name: Option<&str>, value: &Value<'_>) -> Pushed
+    ensures { OnOk result (string_bytes text.new ≡ string_bytes text.old
+        ++ under (option_map (λ n. n.now) name.entry) (shown (as_value value.now))) }
 {
-    push_verdict_words(text, beyond, refusal)?;
-    push_code_named(text, names, refusal.code)?;
-    text.push_str("\n")
+    match name {
+        Some(name) => {
+            text.push_str(" ")?;
+            text.push_str(name)?;
+            push_behind(text, " ", value)
+        }
+        None => push_behind(text, " ", value),
+    }
 }
 
-// ---- a piece
+fn push_said(
+    text: &mut String,
+    how: How,
+    names: bool,
+    name: Option<&str>,
+    value: &Value<'_>,
+) -> Pushed
+    ensures { OnOk result (string_bytes text.new ≡ string_bytes text.old
+        ++ said how names (option_map (λ n. n.now) name.entry) (as_value value.now)) }
+{
+    match (how, names) {
+        (How::Alone, _) => push_value(text, value),
+        (How::Behind, _) | (How::Asked, true) => push_behind(text, " ", value),
+        (How::FurtherAsked, true) => push_behind(text, ",", value),
+        (How::Under, _) => push_under(text, name, value),
+        (How::Asked | How::FurtherAsked, false) | (How::Nowhere, _) => Ok(()),
+    }
+}
 
 impl<const NAMES: bool> Teller for Lines<NAMES> {
     ghost Mark = { ℕ };
@@ -74,59 +99,15 @@ impl<const NAMES: bool> Teller for Lines<NAMES> {
 
     ghost marks = { line_of NAMES };
 
-    fn command_head(&mut self, header: &FrameHeader) -> Pushed {
-        push_command_head(&mut self.text, NAMES, header)
+    fn alloc(&self) -> Global {
+        self.alloc
     }
 
-    fn reply_head(&mut self, command: Option<u32>, header: &FrameHeader) -> Pushed {
-        push_reply_head(&mut self.text, NAMES, command, header)
-    }
-
-    fn packet(&mut self, stamp: Stamp, connection: u64) -> Pushed {
-        push_packet(&mut self.text, stamp, connection)
-    }
-
-    fn handles(&mut self, handles: &[u32]) -> Pushed {
-        push_handles(&mut self.text, NAMES, handles)
-    }
-
-    fn begin_list(&mut self, _name: &str) -> Pushed {
-        Ok(())
-    }
-
-    fn end_list(&mut self) -> Pushed {
-        Ok(())
-    }
-
-    fn session(&mut self, number: usize, session: &Session<'_>) -> Pushed {
-        push_session_line(self.alloc, &mut self.text, NAMES, number, session)
-    }
-
-    fn parameters(&mut self, bytes: &[u8]) -> Pushed {
-        push_parameters(self.alloc, &mut self.text, bytes)
-    }
-
-    fn value(&mut self, field: Field, bytes: &[u8]) -> Pushed {
-        push_field(self.alloc, &mut self.text, field, bytes)
-    }
-
-    fn begin_structure(&mut self, field: Field, bytes: &[u8]) -> Pushed {
-        push_field(self.alloc, &mut self.text, field, bytes)
-    }
-
-    fn end_structure(&mut self) -> Pushed {
-        Ok(())
-    }
-
-    fn number(&mut self, indent: &str, name: &str, n: u32) -> Pushed {
-        push_number(&mut self.text, indent, name, n)
-    }
-
-    fn refusal(&mut self, beyond: bool, refusal: &Refusal) -> Pushed {
-        push_verdict(&mut self.text, NAMES, beyond, refusal)
-    }
-
-    fn untold(&mut self, sentence: &str) -> Pushed {
-        writeln!(self.text, "{sentence}")
+    fn tell(&mut self, piece: &Piece<'_>) -> Pushed {
+        match piece {
+            Piece::Says(how, name, value) => push_said(&mut self.text, *how, NAMES, *name, value),
+            Piece::InLine(how, value) => push_said(&mut self.text, *how, NAMES, None, value),
+            Piece::Opens(_, _) | Piece::Closes(_) => Ok(()),
+        }
     }
 }

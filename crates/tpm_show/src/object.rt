@@ -1,14 +1,19 @@
-//! An object of JSON that is written.
+//! The object of JSON of a frame.
 
 ghost use Rattle.std.specs.Prelude.{◌≡◌, ◌++◌, [], ◌∷◌, ℕ, List, IfOk, OnOk, option_map, string_bytes};
-ghost use Rattle.json.specs.Token.{begin_object, end_object};
-ghost use Rattle.tpm_output.specs.Named.{named_as};
-ghost use Rattle.tpm_show.specs.Members.{hex_member, list_begins, name_member, number_member, text_member};
+ghost use Rattle.hex.specs.Hex.{encode_lower};
+ghost use Rattle.json.specs.Token.{begin_object, end_object, string};
+ghost use Rattle.tpm_output.specs.Numbers.{hexadecimal};
+ghost use Rattle.tpm_output.specs.Reading.{name_tokens};
+ghost use Rattle.tpm_show.specs.FrameJson.{closing, opening, token};
 ghost use Rattle.tpm_show.specs.Reports.{IsObjectLine};
+ghost use Rattle.tpm_show.specs.inner.Pieces.{as_value};
 
+use crate::lines::push_code;
+use crate::piece::{Piece, Shape, Value};
+use crate::teller::Teller;
 use json::Writer;
 use std::alloc::{AllocError, Global};
-use tpm_output::named::Named;
 use tpm_output::text::Pushed;
 
 /// An object that has begun.
@@ -29,51 +34,64 @@ impl Object {
         Ok(Object { alloc, writer })
     }
 
-    /// Adds a text under its name.
-    pub(crate) fn text_member(&mut self, name: &str, text: &str) -> Pushed
+    fn put_name(&mut self, name: Option<&str>) -> Pushed
         ensures { OnOk result (self.new.writer.tokens
-            ≡ self.old.writer.tokens ++ text_member name.now text.now) }
+            ≡ self.old.writer.tokens ++ name_tokens (option_map (λ n. n.now) name.entry)) }
     {
-        self.writer.key(name)?;
-        self.writer.string(text)
-    }
-
-    /// Adds a number under its name.
-    pub(crate) fn number_member(&mut self, name: &str, n: u64) -> Pushed
-        ensures { OnOk result (self.new.writer.tokens
-            ≡ self.old.writer.tokens ++ number_member name.now n) }
-    {
-        self.writer.key(name)?;
-        self.writer.u64(n)
-    }
-
-    /// Adds bytes in hexadecimal under their name.
-    pub(crate) fn hex_member(&mut self, name: &str, bytes: &[u8]) -> Pushed
-        ensures { OnOk result (self.new.writer.tokens
-            ≡ self.old.writer.tokens ++ hex_member name.now bytes.now) }
-    {
-        let value = hex::encode(self.alloc, bytes)?;
-        self.text_member(name, value.as_str())
-    }
-
-    /// Adds the name of a number under this name, where it has one.
-    pub(crate) fn name_member(&mut self, name: &str, named: Option<&'static Named>) -> Pushed
-        ensures { OnOk result (self.new.writer.tokens ≡ self.old.writer.tokens
-            ++ name_member name.now (option_map (λ n. named_as n.now) named.entry)) }
-    {
-        match named {
-            Some(named) => self.text_member(name, named.name),
+        match name {
+            Some(name) => self.writer.key(name),
             None => Ok(()),
         }
     }
 
-    /// Adds a list under its name, which is left open.
-    pub(crate) fn open_list(&mut self, name: &str) -> Pushed
+    fn put_code(&mut self, code: u32) -> Pushed
         ensures { OnOk result (self.new.writer.tokens
-            ≡ self.old.writer.tokens ++ list_begins name.now) }
+            ≡ self.old.writer.tokens ++ string (hexadecimal 3 code) ∷ []) }
     {
-        self.writer.key(name)?;
-        self.writer.begin_array()
+        let mut digits = String::new(self.alloc);
+        push_code(&mut digits, code)?;
+        self.writer.string(digits.as_str())
+    }
+
+    fn put_bytes(&mut self, bytes: &[u8]) -> Pushed
+        ensures { OnOk result (self.new.writer.tokens
+            ≡ self.old.writer.tokens ++ string (encode_lower bytes.now) ∷ []) }
+    {
+        let digits = hex::encode(self.alloc, bytes)?;
+        self.writer.string(digits.as_str())
+    }
+
+    fn put_value(&mut self, value: &Value<'_>) -> Pushed
+        ensures { OnOk result (self.new.writer.tokens
+            ≡ self.old.writer.tokens ++ token (as_value value.now) ∷ []) }
+    {
+        match value {
+            Value::Word(word) => self.writer.string(word),
+            Value::Number(n) => self.writer.u64(*n),
+            Value::Code(code) => self.put_code(*code),
+            Value::Bytes(bytes) => self.put_bytes(bytes),
+            Value::Null => self.writer.null(),
+        }
+    }
+
+    fn open(&mut self, shape: Shape) -> Pushed
+        ensures { OnOk result
+            (self.new.writer.tokens ≡ self.old.writer.tokens ++ opening shape ∷ []) }
+    {
+        match shape {
+            Shape::Object => self.writer.begin_object(),
+            Shape::List => self.writer.begin_array(),
+        }
+    }
+
+    fn close(&mut self, shape: Shape) -> Pushed
+        ensures { OnOk result
+            (self.new.writer.tokens ≡ self.old.writer.tokens ++ closing shape ∷ []) }
+    {
+        match shape {
+            Shape::Object => self.writer.end_object(),
+            Shape::List => self.writer.end_array(),
+        }
     }
 
     /// Ends the object, and adds its line.
@@ -87,5 +105,35 @@ impl Object {
         let object = String::from_utf8(writer.into_inner()).unwrap();
         text.push_str(object.as_str())?;
         text.push_str("\n")
+    }
+}
+
+impl Teller for Object {
+    ghost use Rattle.json.specs.Token.{Token};
+    ghost use Rattle.tpm_show.specs.FrameJson.{tokens_of};
+
+    ghost Mark = { Token };
+
+    ghost told = { λ object. object.writer.tokens };
+
+    ghost marks = { tokens_of };
+
+    fn alloc(&self) -> Global {
+        self.alloc
+    }
+
+    fn tell(&mut self, piece: &Piece<'_>) -> Pushed {
+        match piece {
+            Piece::Says(_, name, value) => {
+                self.put_name(*name)?;
+                self.put_value(value)
+            }
+            Piece::InLine(_, _) => Ok(()),
+            Piece::Opens(name, shape) => {
+                self.put_name(*name)?;
+                self.open(*shape)
+            }
+            Piece::Closes(shape) => self.close(*shape),
+        }
     }
 }

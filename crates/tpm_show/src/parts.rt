@@ -9,10 +9,13 @@ ghost use Rattle.tpm_show.specs.Bits.{bits_set};
 ghost use Rattle.tpm_show.specs.Parts.{attribute_parts, attributes_set, digest_entry, digest_value_entry};
 ghost use Rattle.tpm_show.specs.Parts.{digest_value_members, public_parts, register_parts, selection_entry};
 ghost use Rattle.tpm_show.specs.Parts.{selection_members, set_attribute, symmetric_parts};
-ghost use Rattle.tpm_show.specs.Pieces.{Piece, Value, named, structure_told};
+ghost use Rattle.tpm_commands.specs.Row.{named};
+ghost use Rattle.tpm_show.specs.FieldText.{structure_told, value_told};
+ghost use Rattle.tpm_show.specs.Pieces.{Piece};
 
 use crate::bits::is_set;
 use crate::field::{Field, HasParts};
+use crate::field_text::{begin_structure, end_structure, tell_number, tell_value};
 use crate::teller::Teller;
 use tpm_output::named::Named;
 use tpm_output::names;
@@ -53,11 +56,11 @@ const ATTRIBUTES: [Named; 21] = names![
 fn tell_bits<T: Teller>(teller: &mut T, table: &'static [Named], attrs: u32) -> Pushed
     requires { AllByRecursion (λ bit. bit.number < 32) table.now }
     ensures { OnOk result (T.told teller.new ≡ T.told teller.old
-        ++ flat_map T.marks (map set_attribute (bits_set (map named_as table.now) attrs))) }
+        ++ flat_map T.marks (flat_map set_attribute (bits_set (map named_as table.now) attrs))) }
 {
     for bit in table {
         if is_set(attrs, bit.number) {
-            teller.number("      ", bit.name, 1)?;
+            tell_number(teller, "      ", bit.name, 1)?;
         }
     }
     Ok(())
@@ -66,7 +69,7 @@ fn tell_bits<T: Teller>(teller: &mut T, table: &'static [Named], attrs: u32) -> 
 #[tactic(auto, unfolding(crate::specs::Parts::attributes_set))]
 fn tell_attributes<T: Teller>(teller: &mut T, attrs: u32) -> Pushed
     ensures { OnOk result (T.told teller.new
-        ≡ T.told teller.old ++ flat_map T.marks (map set_attribute (attributes_set attrs))) }
+        ≡ T.told teller.old ++ flat_map T.marks (flat_map set_attribute (attributes_set attrs))) }
 {
     tell_bits(teller, &ATTRIBUTES, attrs)
 }
@@ -85,7 +88,7 @@ impl HasParts for NvAttrs {
     #[tactic(auto, using(crate::proofs::Pieces::pieces), unfolding(crate::specs::Parts::attribute_parts))]
     fn tell_parts<T: Teller>(&self, teller: &mut T) -> Pushed {
         let attrs = self.number();
-        teller.number("      ", "TPM_NT", kind(attrs))?;
+        tell_number(teller, "      ", "TPM_NT", kind(attrs))?;
         tell_attributes(teller, attrs)
     }
 }
@@ -144,7 +147,7 @@ fn tell_registers<T: Teller>(teller: &mut T, selection: &Selection) -> Pushed
 {
     for number in 0..24 {
         if selection.is_selected(register(number)) {
-            teller.number("        ", "PCR", number)?;
+            tell_number(teller, "        ", "PCR", number)?;
         }
     }
     Ok(())
@@ -157,9 +160,13 @@ fn tell_select<T: Teller>(teller: &mut T, selection: &Selection) -> Pushed
         (named (codes "pcrSelect") (codes "BYTE"))
         selection.now.select (register_parts selection.now.select))) }
 {
-    teller.begin_structure(Field("      ", "pcrSelect", "BYTE"), &selection.select)?;
+    begin_structure(
+        teller,
+        Field("      ", "pcrSelect", "BYTE"),
+        &selection.select,
+    )?;
     tell_registers(teller, selection)?;
-    teller.end_structure()
+    end_structure(teller)
 }
 
 /// The members.
@@ -201,12 +208,12 @@ impl Entry for Digest {
 impl HasParts for HashedDigest {
     ghost told_parts = { digest_value_members };
 
-    #[tactic(auto, unfolding(tpm_types::specs::Tpmt::digest_value))]
+    #[tactic(auto, using(crate::proofs::Pieces::pieces), unfolding(tpm_types::specs::Tpmt::digest_value))]
     fn tell_parts<T: Teller>(&self, teller: &mut T) -> Pushed {
         let hash = self.hash();
         prove!(hash.len() <= 4096);
         Field("      ", "hashAlg", "TPMI_ALG_HASH").tell(teller, &hash)?;
-        teller.value(Field("      ", "digest", "TPMU_HA"), self.digest())
+        tell_value(teller, Field("      ", "digest", "TPMU_HA"), self.digest())
     }
 }
 
@@ -231,8 +238,8 @@ const NULL: u16 = 0x0010;
 const CFB: u16 = 0x0043;
 
 fn tell_algorithm<T: Teller>(teller: &mut T, n: u16) -> Pushed
-    ensures { OnOk result (T.told teller.new ≡ T.told teller.old
-        ++ T.marks (Value (codes "    ") (named (codes "algorithm") (codes "TPMI_ALG_SYM"))
+    ensures { OnOk result (T.told teller.new ≡ T.told teller.old ++ flat_map T.marks
+        (value_told (codes "    ") (named (codes "algorithm") (codes "TPMI_ALG_SYM"))
         (bytes_high_first 2 n))) }
 {
     Field("    ", "algorithm", "TPMI_ALG_SYM").tell(teller, &n)

@@ -3,15 +3,18 @@
 ghost use Rattle.std.specs.Prelude.{◌≡◌, ◌++◌, IfOk, OnOk, flat_map};
 ghost use Rattle.tpm_show.specs.Library.{command_areas_told, response_areas_told};
 ghost use Rattle.tpm_show.specs.Refusals.{CommandBytes, ReplyBytes, code_in, head_told, is_buffer_beyond, refused_told};
-ghost use Rattle.tpm_show.specs.Refusals.{status_if};
+ghost use Rattle.tpm_show.specs.Refusals.{refusal_told, status_if, verdict, verdict_name};
 
 use crate::areas::{tell_areas, tell_reply_areas};
 use crate::beyond::is_beyond;
 use crate::capture_lines::Direction;
 use crate::command_names::command_of;
-use crate::frame_header::{FrameHeader, header_in};
+use crate::frame_header::{
+    FrameHeader, header_in, tell_code_in_line, tell_code_name, tell_command_head, tell_reply_head,
+};
 use crate::library::{CommandAreas, ResponseAreas, library_command, library_response};
-use crate::teller::Teller;
+use crate::piece::{How, LINE_END, Piece, Value};
+use crate::teller::{Teller, tell_all};
 use std::alloc::AllocError;
 use tpm_output::status::Status;
 use tpm_output::text::Pushed;
@@ -32,8 +35,8 @@ pub(crate) fn tell_head<T: Teller>(
         return Ok(());
     };
     match direction {
-        Direction::Command => teller.command_head(header),
-        Direction::Reply => teller.reply_head(answered, header),
+        Direction::Command => tell_command_head(teller, header),
+        Direction::Reply => tell_reply_head(teller, answered, header),
     }
 }
 
@@ -46,6 +49,44 @@ pub(crate) fn status_if(beyond: bool) -> Status
     } else {
         Status::Refused
     }
+}
+
+// ---- a fault
+
+fn verdict(beyond: bool) -> &'static str
+    ensures { result.now ≡ verdict beyond }
+{
+    if beyond {
+        "beyond this profile,"
+    } else {
+        "refused"
+    }
+}
+
+fn verdict_name(beyond: bool) -> &'static str
+    ensures { result.now ≡ verdict_name beyond }
+{
+    if beyond { "beyond" } else { "refused" }
+}
+
+/// Tells a fault, which is beyond this profile, or refused.
+#[tactic(auto, using(crate::proofs::Pieces::pieces), unfolding(crate::specs::Refusals::refusal_told))]
+pub(crate) fn tell_refusal<T: Teller>(teller: &mut T, beyond: bool, refusal: &Refusal) -> Pushed
+    ensures { OnOk result (T.told teller.new
+        ≡ T.told teller.old ++ flat_map T.marks (refusal_told beyond refusal.now)) }
+{
+    let Refusal { code, at } = *refusal;
+    tell_all(
+        teller,
+        &[
+            Piece::InLine(How::Alone, Value::Word(verdict(beyond))),
+            Piece::Says(How::Behind, Some(verdict_name(beyond)), Value::Code(code)),
+        ],
+    )?;
+    tell_code_name(teller, How::Nowhere, "fault", code)?;
+    teller.tell(&Piece::Says(How::Under, Some("at"), Value::Number(at as u64)))?;
+    tell_code_in_line(teller, code)?;
+    teller.tell(&LINE_END)
 }
 
 // ---- a command
@@ -84,7 +125,7 @@ pub(crate) fn tell_refused_command<T: Teller>(
     let header = header_in(bytes);
     let areas = library_command(bytes, header);
     let beyond = areas.is_some() && is_beyond(Direction::Command, code_in(header), refusal, bytes);
-    teller.refusal(beyond, refusal)?;
+    tell_refusal(teller, beyond, refusal)?;
     tell_command_areas(teller, &areas)?;
     Ok(status_if(beyond))
 }
@@ -121,7 +162,7 @@ pub(crate) fn tell_refused_reply<T: Teller>(
     let code = command.number();
     let areas = library_response(command_of(code), bytes, header_in(bytes));
     let beyond = areas.is_some() && is_beyond(Direction::Reply, code, refusal, bytes);
-    teller.refusal(beyond, refusal)?;
+    tell_refusal(teller, beyond, refusal)?;
     tell_response_areas(teller, &areas)?;
     Ok(status_if(beyond))
 }

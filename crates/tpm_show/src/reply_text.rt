@@ -1,28 +1,31 @@
 //! The first line of a response, and its handle.
 
-ghost use Rattle.std.specs.Prelude.{◌≡◌, ◌++◌, OnOk, string_bytes};
-ghost use Rattle.tpm_show.specs.Pieces.{Handles};
-ghost use Rattle.tpm_show.specs.ReplyText.{handles_of, reply_code_line, reply_code_words, reply_line};
+ghost use Rattle.std.specs.Prelude.{◌≡◌, ◌++◌, OnOk, flat_map, string_bytes};
+ghost use Rattle.tpm_show.specs.HandleNames.{handles_told};
+ghost use Rattle.tpm_show.specs.ReplyText.{code_alone_told, handles_of, reply_line};
 
-use crate::frame_header::push_code_named;
-use crate::teller::Teller;
+use crate::frame_header::tell_code_in_line;
+use crate::handle_names::tell_handles;
+use crate::piece::{How, LINE_END, Piece, Value};
+use crate::teller::{Teller, tell_all};
 use tpm_output::text::Pushed;
 use tpm_types::CommandCode;
 
-fn push_code_words(text: &mut String, code: u32) -> Pushed
-    ensures { OnOk result (string_bytes text.new ≡ string_bytes text.old ++ reply_code_words code) }
-{
-    write!(text, "reply code {code:03x}")
-}
-
-/// Adds the line of a response code.
-pub(crate) fn push_code_line(text: &mut String, names: bool, code: u32) -> Pushed
+/// Tells a response code.
+#[tactic(auto, using(crate::proofs::Pieces::pieces), unfolding(crate::specs::ReplyText::code_alone_told))]
+pub(crate) fn tell_code_alone<T: Teller>(teller: &mut T, code: u32) -> Pushed
     ensures { OnOk result
-        (string_bytes text.new ≡ string_bytes text.old ++ reply_code_line names code) }
+        (T.told teller.new ≡ T.told teller.old ++ flat_map T.marks (code_alone_told code)) }
 {
-    push_code_words(text, code)?;
-    push_code_named(text, names, code)?;
-    text.push_str("\n")
+    tell_all(
+        teller,
+        &[
+            Piece::InLine(How::Alone, Value::Word("reply code")),
+            Piece::InLine(How::Behind, Value::Code(code)),
+        ],
+    )?;
+    tell_code_in_line(teller, code)?;
+    teller.tell(&LINE_END)
 }
 
 /// Adds the first line of a reply to this command, of so many bytes.
@@ -38,10 +41,10 @@ pub(crate) fn push_name(text: &mut String, command: CommandCode, size: usize) ->
 /// Tells a reply's handle, where it has one.
 pub(crate) fn tell_first_handle<T: Teller>(teller: &mut T, handle: Option<u32>) -> Pushed
     ensures { OnOk result (T.told teller.new
-        ≡ T.told teller.old ++ T.marks (Handles (handles_of handle))) }
+        ≡ T.told teller.old ++ flat_map T.marks (handles_told (handles_of handle))) }
 {
     match handle {
-        Some(handle) => teller.handles(&[handle]),
-        None => teller.handles(&[]),
+        Some(handle) => tell_handles(teller, &[handle]),
+        None => tell_handles(teller, &[]),
     }
 }

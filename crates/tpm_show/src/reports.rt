@@ -1,15 +1,18 @@
 //! What is told in place of a frame, as a line or as an object of JSON.
 
-ghost use Rattle.std.specs.Prelude.{◌≡◌, ◌++◌, ℕ, List, IfOk, OnOk, codes, string_bytes};
+ghost use Rattle.std.specs.Prelude.{◌≡◌, ◌++◌, ℕ, List, IfOk, OnOk, flat_map, string_bytes};
 ghost use Rattle.std.specs.Io.KnownBytes.{Appends};
 ghost use Rattle.tpm_output.specs.declared.status.Status.TheVariants.{Refused};
 ghost use Rattle.tpm_output.specs.Faults.{FailsByMemoryOrWrite};
-ghost use Rattle.tpm_show.specs.Members.{number_member, object_of, text_member};
-ghost use Rattle.tpm_show.specs.inner.Remarks.{report_of};
-ghost use Rattle.tpm_show.specs.Reports.{IsObjectLine, IsReport, at_member, fault_member, link_fault, no_packet};
+ghost use Rattle.tpm_show.specs.FrameJson.{object_of};
+ghost use Rattle.tpm_show.specs.inner.Remarks.{remark_told, report_of};
+ghost use Rattle.tpm_show.specs.Reports.{IsObjectLine, IsReport, fault_at_told, fault_told, link_fault, no_packet};
 
+use crate::lines::Lines;
 use crate::object::Object;
+use crate::piece::{How, LINE_END, Piece, Value};
 use crate::remark::Remark;
+use crate::teller::{Teller, tell_all};
 use std::alloc::{AllocError, Global};
 use std::io::Write;
 use tpm_output::answer::write;
@@ -17,62 +20,11 @@ use tpm_output::fault::ToolFault;
 use tpm_output::status::Status;
 use tpm_output::text::Pushed;
 
-// ---- a line
-
-#[tactic(auto, unfolding(crate::specs::Reports::fault_line, crate::specs::Reports::stop_line, crate::specs::Reports::packet_line, crate::specs::Reports::link_fault, crate::specs::Reports::no_packet))]
-fn push_line(text: &mut String, remark: Remark) -> Pushed
-    ensures { OnOk result (string_bytes text.new
-        ≡ string_bytes text.old ++ (report_of remark).lines) }
-{
-    match remark {
-        Remark::Fault(number, fault) => writeln!(text, "{number} {fault}"),
-        Remark::Stop(number, fault, at) => writeln!(text, "{number} {fault} at {at}"),
-        Remark::Packet(packet, reason) => writeln!(text, "packet {packet}: {reason}"),
-        Remark::NoCapture => text.push_str("no capture of libpcap at 0\n"),
-        Remark::NoPacket(port) => writeln!(text, "no packet of port {port}"),
-        Remark::OtherLink(number) => writeln!(text, "link type {number} is not known at 20"),
-    }
-}
-
-// ---- an object
-
-fn tell_fault_at(object: &mut Object, fault: &str, at: u64) -> Pushed
-    ensures { OnOk result (object.new.writer.tokens
-        ≡ object.old.writer.tokens ++ (fault_member fault.now ++ at_member at)) }
-{
-    object.text_member("fault", fault)?;
-    object.number_member("at", at)
-}
-
-fn tell_stop(object: &mut Object, number: u64, fault: &str, at: u64) -> Pushed
-    ensures { OnOk result (object.new.writer.tokens ≡ object.old.writer.tokens
-        ++ (number_member (codes "number") number ++ (fault_member fault.now ++ at_member at))) }
-{
-    object.number_member("number", number)?;
-    tell_fault_at(object, fault, at)
-}
-
-fn tell_numbered_fault(object: &mut Object, name: &str, number: u64, fault: &str) -> Pushed
-    ensures { OnOk result (object.new.writer.tokens ≡ object.old.writer.tokens
-        ++ (number_member name.now number ++ fault_member fault.now)) }
-{
-    object.number_member(name, number)?;
-    object.text_member("fault", fault)
-}
-
 #[tactic(auto, unfolding(crate::specs::Reports::link_fault))]
 fn link_fault(alloc: Global, number: u32) -> Result<String, AllocError>
     ensures { IfOk result (λ fault. string_bytes fault ≡ link_fault number) }
 {
     format!(in alloc; "link type {number} is not known")
-}
-
-fn tell_link(object: &mut Object, number: u32) -> Pushed
-    ensures { OnOk result (object.new.writer.tokens
-        ≡ object.old.writer.tokens ++ (fault_member (link_fault number) ++ at_member 20)) }
-{
-    let fault = link_fault(object.alloc, number)?;
-    tell_fault_at(object, fault.as_str(), 20)
 }
 
 #[tactic(auto, unfolding(crate::specs::Reports::no_packet))]
@@ -82,40 +34,96 @@ fn no_packet(alloc: Global, port: u16) -> Result<String, AllocError>
     format!(in alloc; "no packet of port {port}")
 }
 
-fn tell_no_packet(object: &mut Object, port: u16) -> Pushed
-    ensures { OnOk result (object.new.writer.tokens
-        ≡ object.old.writer.tokens ++ fault_member (no_packet port)) }
+fn tell_fault<T: Teller>(teller: &mut T, fault: &str) -> Pushed
+    ensures { OnOk result (T.told teller.new
+        ≡ T.told teller.old ++ flat_map T.marks (fault_told fault.now)) }
 {
-    let fault = no_packet(object.alloc, port)?;
-    object.text_member("fault", fault.as_str())
+    tell_all(
+        teller,
+        &[
+            Piece::Says(How::Alone, Some("fault"), Value::Word(fault)),
+            LINE_END,
+        ],
+    )
 }
 
-fn tell_members(object: &mut Object, remark: Remark) -> Pushed
-    ensures { OnOk result (object.new.writer.tokens
-        ≡ object.old.writer.tokens ++ (report_of remark).members) }
+fn tell_fault_at<T: Teller>(teller: &mut T, fault: &str, at: u64) -> Pushed
+    ensures { OnOk result (T.told teller.new
+        ≡ T.told teller.old ++ flat_map T.marks (fault_at_told fault.now at)) }
+{
+    tell_all(
+        teller,
+        &[
+            Piece::Says(How::Alone, Some("fault"), Value::Word(fault)),
+            Piece::Says(How::Under, Some("at"), Value::Number(at)),
+            LINE_END,
+        ],
+    )
+}
+
+fn tell_remark<T: Teller>(teller: &mut T, remark: Remark) -> Pushed
+    ensures { OnOk result
+        (T.told teller.new ≡ T.told teller.old ++ flat_map T.marks (remark_told remark)) }
 {
     match remark {
-        Remark::Fault(number, fault) => tell_numbered_fault(object, "number", number, fault),
-        Remark::Stop(number, fault, at) => tell_stop(object, number, fault, at as u64),
-        Remark::Packet(packet, reason) => tell_numbered_fault(object, "packet", packet, reason),
-        Remark::NoCapture => tell_fault_at(object, "no capture of libpcap", 0),
-        Remark::NoPacket(port) => tell_no_packet(object, port),
-        Remark::OtherLink(number) => tell_link(object, number),
+        Remark::Fault(number, fault) => tell_all(
+            teller,
+            &[
+                Piece::Says(How::Alone, Some("number"), Value::Number(number)),
+                Piece::Says(How::Behind, Some("fault"), Value::Word(fault)),
+                LINE_END,
+            ],
+        ),
+        Remark::Stop(number, fault, at) => tell_all(
+            teller,
+            &[
+                Piece::Says(How::Alone, Some("number"), Value::Number(number)),
+                Piece::Says(How::Behind, Some("fault"), Value::Word(fault)),
+                Piece::Says(How::Under, Some("at"), Value::Number(at as u64)),
+                LINE_END,
+            ],
+        ),
+        Remark::Packet(packet, reason) => tell_all(
+            teller,
+            &[
+                Piece::InLine(How::Alone, Value::Word("packet")),
+                Piece::Says(How::Behind, Some("packet"), Value::Number(packet)),
+                Piece::InLine(How::Alone, Value::Word(":")),
+                Piece::Says(How::Behind, Some("fault"), Value::Word(reason)),
+                LINE_END,
+            ],
+        ),
+        Remark::NoCapture => tell_fault_at(teller, "no capture of libpcap", 0),
+        Remark::NoPacket(port) => {
+            let fault = no_packet(teller.alloc(), port)?;
+            tell_fault(teller, fault.as_str())
+        }
+        Remark::OtherLink(number) => {
+            let fault = link_fault(teller.alloc(), number)?;
+            tell_fault_at(teller, fault.as_str(), 20)
+        }
     }
 }
 
-#[tactic(auto, using(std::proofs::Common::append_assoc), unfolding(crate::specs::Members::object_of))]
+fn push_line(alloc: Global, text: &mut String, remark: Remark) -> Pushed
+    ensures { OnOk result (string_bytes text.new
+        ≡ string_bytes text.old ++ (report_of remark).lines) }
+{
+    let mut lines = Lines::<false>::new(alloc);
+    tell_remark(&mut lines, remark)?;
+    text.push_str(lines.text.as_str())
+}
+
+#[tactic(auto, using(std::proofs::Common::append_assoc), unfolding(crate::specs::FrameJson::object_of))]
 fn push_object(alloc: Global, text: &mut String, remark: Remark) -> Pushed
     ensures { OnOk result ((line : List ℕ)
         × IsObjectLine (object_of (report_of remark).members) line
         × (string_bytes text.new ≡ string_bytes text.old ++ line)) }
 {
     let mut object = Object::begin(alloc)?;
-    tell_members(&mut object, remark)?;
+    tell_remark(&mut object, remark)?;
     object.end_line(text)
 }
-
-// ---- either
 
 /// Adds its line, or its object.
 pub(crate) fn push_remark(alloc: Global, text: &mut String, json: bool, remark: Remark) -> Pushed
@@ -126,7 +134,7 @@ pub(crate) fn push_remark(alloc: Global, text: &mut String, json: bool, remark: 
     if json {
         push_object(alloc, text, remark)
     } else {
-        push_line(text, remark)
+        push_line(alloc, text, remark)
     }
 }
 

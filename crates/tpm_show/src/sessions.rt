@@ -1,27 +1,20 @@
-//! The sessions of a command or of a reply, as lines or as objects of JSON.
+//! The sessions of a command or of a reply.
 
-ghost use Rattle.std.specs.Prelude.{◌≡◌, ◌++◌, ◌<◌, ◌≤◌, List, OnOk, codes, flat_map, length, map, slice_get};
-ghost use Rattle.std.specs.Prelude.{string_bytes};
+ghost use Rattle.std.specs.Prelude.{◌≡◌, ◌++◌, ◌<◌, List, OnOk, flat_map, length, map, slice_get};
 ghost use Rattle.std.specs.List.{AllByRecursion};
 ghost use Rattle.tpm_output.specs.Named.{named_as};
-ghost use Rattle.tpm_output.specs.Text.{lines_from};
 ghost use Rattle.tpm_show.specs.Bits.{bits_set};
 ghost use Rattle.tpm_show.specs.HandleNames.{handle_named};
-ghost use Rattle.tpm_show.specs.Members.{hex_member, list_begins, list_member, name_member, object_of, text_member};
-ghost use Rattle.tpm_show.specs.Pieces.{sessions_from, sessions_told};
-ghost use Rattle.tpm_show.specs.Sessions.{ShownSession, attributes_behind, attributes_in_line, attributes_set};
-ghost use Rattle.tpm_show.specs.Sessions.{attributes_members, attributes_word, bit_name, handle_in_line};
-ghost use Rattle.tpm_show.specs.Sessions.{handle_in_object, name_behind_number, session_line, session_members};
+ghost use Rattle.tpm_show.specs.Sessions.{ShownSession, attributes_set, attributes_told, handle_told, name_told};
+ghost use Rattle.tpm_show.specs.Sessions.{names_from, session_begins, session_ends, session_told, sessions_from, sessions_told};
+ghost use Rattle.tpm_show.specs.declared.piece.How.TheVariants.{Asked};
 
 use crate::bits::is_set;
-use crate::handle_names::{handle_name, push_handle_behind};
-use crate::hex_digits::{eight_digits, two_digits};
-use crate::object::Object;
-use crate::teller::Teller;
-use std::alloc::Global;
+use crate::handle_names::handle_name;
+use crate::piece::{How, LINE_END, Piece, Shape, Value};
+use crate::teller::{Teller, tell_all};
 use std::marker::Model;
 use tpm_buffer::{Areas, ReplyAreas};
-use tpm_output::hexadecimal::shown_bytes;
 use tpm_output::named::Named;
 use tpm_output::names;
 use tpm_output::text::Pushed;
@@ -151,187 +144,113 @@ impl HasSessions for ReplyAreas<'_> {
     }
 }
 
-// ---- a line
+// ---- a session
 
-#[tactic(auto, unfolding(crate::specs::Sessions::name_behind_number))]
-fn push_name_behind_number(text: &mut String, i: usize, bit: &Named) -> Pushed
-    ensures { OnOk result (string_bytes text.new
-        ≡ string_bytes text.old ++ name_behind_number i (named_as bit.now)) }
+fn tell_name<T: Teller>(teller: &mut T, handle: u32) -> Pushed
+    ensures { OnOk result (T.told teller.new
+        ≡ T.told teller.old ++ flat_map T.marks (name_told (handle_named handle))) }
 {
-    let name = bit.name;
-    if i == 1 {
-        return write!(text, " {name}");
+    match handle_name(handle) {
+        Some(named) => teller.tell(&Piece::Says(
+            How::Asked,
+            Some("session_name"),
+            Value::Word(named.name),
+        )),
+        None => Ok(()),
     }
-    write!(text, ",{name}")
 }
 
-// Adds the names of the bits of the table that are set.
-fn push_set_names(text: &mut String, table: &'static [Named], attributes: u8) -> Pushed
-    requires within { AllByRecursion (λ bit. bit.number < 32) table.now }
-    requires few { length table.now ≤ 32 }
-    ensures { OnOk result (string_bytes text.new ≡ string_bytes text.old
-        ++ lines_from name_behind_number 1 (bits_set (map named_as table.now) attributes)) }
-{
-    let mut i = 1;
-    for bit in table {
-        if is_set(u32::from(attributes), bit.number) {
-            push_name_behind_number(text, i, bit)?;
-            i += 1;
-        }
-    }
-    Ok(())
-}
-
-#[tactic(auto, unfolding(crate::specs::Sessions::attributes_set))]
-fn push_attribute_names(text: &mut String, attributes: u8) -> Pushed
-    ensures { OnOk result (string_bytes text.new ≡ string_bytes text.old
-        ++ lines_from name_behind_number 1 (attributes_set attributes)) }
-{
-    push_set_names(text, &ATTRIBUTES, attributes)
-}
-
-fn push_attributes_behind(text: &mut String, names: bool, attributes: u8) -> Pushed
+fn tell_handle<T: Teller>(teller: &mut T, handle: Option<u32>) -> Pushed
     ensures { OnOk result
-        (string_bytes text.new ≡ string_bytes text.old ++ attributes_behind names attributes) }
-{
-    if !names {
-        return Ok(());
-    }
-    push_attribute_names(text, attributes)
-}
-
-#[tactic(auto, using(tpm_output::proofs::Padded::padded))]
-fn push_handle_in_line(text: &mut String, names: bool, handle: Option<u32>) -> Pushed
-    ensures { OnOk result
-        (string_bytes text.new ≡ string_bytes text.old ++ handle_in_line names handle) }
+        (T.told teller.new ≡ T.told teller.old ++ flat_map T.marks (handle_told handle)) }
 {
     let Some(handle) = handle else {
         return Ok(());
     };
-    write!(text, "{handle:08x}")?;
-    push_handle_behind(text, names, handle)?;
-    text.push_str(" ")
+    let bytes = handle.to_be_bytes();
+    teller.tell(&Piece::Says(How::Behind, Some("session"), Value::Bytes(&bytes)))?;
+    tell_name(teller, handle)
 }
 
-fn push_attributes_word(text: &mut String, attributes: u8) -> Pushed
-    ensures { OnOk result
-        (string_bytes text.new ≡ string_bytes text.old ++ attributes_word attributes) }
-{
-    write!(text, " attributes {attributes:02x}")
-}
-
-fn push_attributes_in_line(text: &mut String, names: bool, attributes: u8) -> Pushed
-    ensures { OnOk result
-        (string_bytes text.new ≡ string_bytes text.old ++ attributes_in_line names attributes) }
-{
-    push_attributes_word(text, attributes)?;
-    push_attributes_behind(text, names, attributes)
-}
-
-/// Adds the line of a session.
-#[tactic(auto, unfolding(crate::specs::Sessions::session_line))]
-pub(crate) fn push_session_line(
-    alloc: Global,
-    text: &mut String,
-    names: bool,
-    i: usize,
-    session: &Session<'_>,
-) -> Pushed
-    ensures { OnOk result (string_bytes text.new
-        ≡ string_bytes text.old ++ session_line names i session.now) }
-{
-    write!(text, "session {i} ")?;
-    push_handle_in_line(text, names, session.handle)?;
-    let nonce = shown_bytes(alloc, session.nonce)?;
-    write!(text, "nonce {nonce}")?;
-    push_attributes_in_line(text, names, session.attributes)?;
-    let hmac = shown_bytes(alloc, session.hmac)?;
-    writeln!(text, " hmac {hmac}")
-}
-
-// ---- an object
-
-fn tell_handle_name(object: &mut Object, handle: u32) -> Pushed
-    ensures { OnOk result (object.new.writer.tokens ≡ object.old.writer.tokens
-        ++ name_member (codes "session_name") (handle_named handle)) }
-{
-    object.name_member("session_name", handle_name(handle))
-}
-
-fn tell_handle(object: &mut Object, handle: Option<u32>) -> Pushed
-    ensures { OnOk result (object.new.writer.tokens
-        ≡ object.old.writer.tokens ++ handle_in_object handle) }
-{
-    let Some(handle) = handle else {
-        return Ok(());
-    };
-    let digits = eight_digits(object.alloc, handle)?;
-    object.text_member("session", digits.as_str())?;
-    tell_handle_name(object, handle)
-}
-
-// Adds the names of the bits of the table that are set.
-fn tell_set_names(object: &mut Object, table: &'static [Named], attributes: u8) -> Pushed
+// Tells the names of the bits of the table that are set.
+#[tactic(auto, using(crate::proofs::Pieces::pieces))]
+fn tell_set_names<T: Teller>(teller: &mut T, table: &'static [Named], attributes: u8) -> Pushed
     requires { AllByRecursion (λ bit. bit.number < 32) table.now }
-    ensures { OnOk result (object.new.writer.tokens ≡ object.old.writer.tokens
-        ++ map bit_name (bits_set (map named_as table.now) attributes)) }
+    ensures { OnOk result (T.told teller.new ≡ T.told teller.old ++ flat_map T.marks
+        (names_from Asked (bits_set (map named_as table.now) attributes))) }
 {
+    let mut how = How::Asked;
     for bit in table {
         if is_set(u32::from(attributes), bit.number) {
-            object.writer.string(bit.name)?;
+            teller.tell(&Piece::Says(how, None, Value::Word(bit.name)))?;
+            how = How::FurtherAsked;
         }
     }
     Ok(())
 }
 
 #[tactic(auto, unfolding(crate::specs::Sessions::attributes_set))]
-fn tell_each_name(object: &mut Object, attributes: u8) -> Pushed
-    ensures { OnOk result (object.new.writer.tokens
-        ≡ object.old.writer.tokens ++ map bit_name (attributes_set attributes)) }
+fn tell_attribute_names<T: Teller>(teller: &mut T, attributes: u8) -> Pushed
+    ensures { OnOk result (T.told teller.new
+        ≡ T.told teller.old ++ flat_map T.marks (names_from Asked (attributes_set attributes))) }
 {
-    tell_set_names(object, &ATTRIBUTES, attributes)
+    tell_set_names(teller, &ATTRIBUTES, attributes)
 }
 
-#[tactic(auto, unfolding(crate::specs::Members::list_member))]
-fn tell_attribute_names(object: &mut Object, attributes: u8) -> Pushed
-    ensures { OnOk result (object.new.writer.tokens ≡ object.old.writer.tokens
-        ++ list_member (codes "attribute_names") (map bit_name (attributes_set attributes))) }
+// Tells attributes, and the names of those that are set.
+#[tactic(auto, using(crate::proofs::Pieces::pieces), unfolding(crate::specs::Sessions::attributes_told))]
+fn tell_attributes<T: Teller>(teller: &mut T, attributes: u8) -> Pushed
+    ensures { OnOk result
+        (T.told teller.new ≡ T.told teller.old ++ flat_map T.marks (attributes_told attributes)) }
 {
-    object.open_list("attribute_names")?;
-    tell_each_name(object, attributes)?;
-    object.writer.end_array()
+    let bytes = [attributes];
+    teller.tell(&Piece::Says(How::Under, Some("attributes"), Value::Bytes(&bytes)))?;
+    teller.tell(&Piece::Opens(Some("attribute_names"), Shape::List))?;
+    tell_attribute_names(teller, attributes)?;
+    teller.tell(&Piece::Closes(Shape::List))
 }
 
-#[tactic(auto, unfolding(crate::specs::Sessions::attributes_members))]
-fn tell_attributes(object: &mut Object, attributes: u8) -> Pushed
-    ensures { OnOk result (object.new.writer.tokens
-        ≡ object.old.writer.tokens ++ attributes_members attributes) }
+#[tactic(auto, unfolding(crate::specs::Sessions::session_begins))]
+fn begin_session<T: Teller>(teller: &mut T, number: usize) -> Pushed
+    ensures { OnOk result
+        (T.told teller.new ≡ T.told teller.old ++ flat_map T.marks (session_begins number)) }
 {
-    let digits = two_digits(object.alloc, attributes)?;
-    object.text_member("attributes", digits.as_str())?;
-    tell_attribute_names(object, attributes)
+    tell_all(
+        teller,
+        &[
+            Piece::Opens(None, Shape::Object),
+            Piece::InLine(How::Alone, Value::Word("session")),
+            Piece::InLine(How::Behind, Value::Number(number as u64)),
+        ],
+    )
 }
 
-#[tactic(auto, unfolding(crate::specs::Sessions::session_members))]
-fn tell_members(object: &mut Object, session: &Session<'_>) -> Pushed
-    ensures { OnOk result (object.new.writer.tokens
-        ≡ object.old.writer.tokens ++ session_members session.now) }
+#[tactic(auto, unfolding(crate::specs::Sessions::session_ends))]
+fn end_session<T: Teller>(teller: &mut T, hmac: &[u8]) -> Pushed
+    ensures { OnOk result
+        (T.told teller.new ≡ T.told teller.old ++ flat_map T.marks (session_ends hmac.now)) }
 {
-    tell_handle(object, session.handle)?;
-    object.hex_member("nonce", session.nonce)?;
-    tell_attributes(object, session.attributes)?;
-    object.hex_member("hmac", session.hmac)
+    tell_all(
+        teller,
+        &[
+            Piece::Says(How::Under, Some("hmac"), Value::Bytes(hmac)),
+            LINE_END,
+            Piece::Closes(Shape::Object),
+        ],
+    )
 }
 
-/// Adds the object of a session.
-#[tactic(auto, unfolding(crate::specs::Members::object_of))]
-pub(crate) fn tell_session(object: &mut Object, session: &Session<'_>) -> Pushed
-    ensures { OnOk result (object.new.writer.tokens
-        ≡ object.old.writer.tokens ++ object_of (session_members session.now)) }
+// Tells a session by its number.
+#[tactic(auto, using(crate::proofs::Pieces::pieces), unfolding(crate::specs::Sessions::session_told))]
+fn tell_session<T: Teller>(teller: &mut T, number: usize, session: &Session<'_>) -> Pushed
+    ensures { OnOk result (T.told teller.new
+        ≡ T.told teller.old ++ flat_map T.marks (session_told number session.now)) }
 {
-    object.writer.begin_object()?;
-    tell_members(object, session)?;
-    object.writer.end_object()
+    begin_session(teller, number)?;
+    tell_handle(teller, session.handle)?;
+    teller.tell(&Piece::Says(How::Under, Some("nonce"), Value::Bytes(session.nonce)))?;
+    tell_attributes(teller, session.attributes)?;
+    end_session(teller, session.hmac)
 }
 
 // ---- all of them
@@ -343,18 +262,19 @@ fn tell_each<A: HasSessions, T: Teller>(teller: &mut T, areas: &A) -> Pushed
 {
     for before in 0..areas.session_count() {
         if let Some(session) = areas.session(before) {
-            teller.session(before + 1, &session)?;
+            tell_session(teller, before + 1, &session)?;
         }
     }
     Ok(())
 }
 
 /// Tells the sessions.
+#[tactic(auto, using(crate::proofs::Pieces::pieces))]
 pub(crate) fn tell_sessions<A: HasSessions, T: Teller>(teller: &mut T, areas: &A) -> Pushed
     ensures { OnOk result (T.told teller.new ≡ T.told teller.old
         ++ flat_map T.marks (sessions_told (A.sessions areas.now))) }
 {
-    teller.begin_list("sessions")?;
+    teller.tell(&Piece::Opens(Some("sessions"), Shape::List))?;
     tell_each(teller, areas)?;
-    teller.end_list()
+    teller.tell(&Piece::Closes(Shape::List))
 }

@@ -8,18 +8,19 @@ ghost use Rattle.tpm_buffer.specs.Responses.{reply_cut, response};
 ghost use Rattle.tpm_output.specs.declared.status.Status.TheVariants.{Refused};
 ghost use Rattle.tpm_show.specs.Areas.{command_rest, reply_rest, response_rest};
 ghost use Rattle.tpm_show.specs.Fields.{command_fields, reply_fields};
-ghost use Rattle.tpm_show.specs.FrameLines.{verdict_line};
-ghost use Rattle.tpm_show.specs.Pieces.{fields_told};
-ghost use Rattle.tpm_show.specs.Refusals.{CommandBytes, ReplyBytes};
+ghost use Rattle.tpm_show.specs.FieldText.{fields_told};
+ghost use Rattle.tpm_show.specs.FrameLines.{in_lines};
+ghost use Rattle.tpm_show.specs.Refusals.{CommandBytes, ReplyBytes, refusal_told};
 ghost use Rattle.tpm_show.specs.Show.{ShowsBuffer, ShowsRefused, command_line, command_lines, response_lines};
 
-use crate::areas::tell_areas;
+use crate::areas::{tell_areas, tell_parameters};
 use crate::capture_lines::Direction;
 use crate::fields::{tell_command_fields, tell_reply_fields};
 use crate::frame_header::header_in;
 use crate::lines::Lines;
-use crate::refused::{tell_head, tell_refused_command, tell_refused_reply};
-use crate::reply_text::{push_code_line, push_name, tell_first_handle};
+use crate::piece::{Piece, Shape};
+use crate::refused::{tell_head, tell_refusal, tell_refused_command, tell_refused_reply};
+use crate::reply_text::{push_name, tell_code_alone, tell_first_handle};
 use crate::sessions::tell_sessions;
 use crate::teller::Teller;
 use std::alloc::{AllocError, Global};
@@ -36,10 +37,10 @@ use tpm_wire::Refusal;
 // The line of a fault.
 fn refused_line(alloc: Global, refusal: &Refusal) -> Result<Answer, AllocError>
     ensures { IfOk result (λ a. (a.status ≡ Refused)
-        × (string_bytes a.text ≡ verdict_line false false refusal.now)) }
+        × (string_bytes a.text ≡ in_lines false (refusal_told false refusal.now))) }
 {
     let mut lines = Lines::<false>::new(alloc);
-    lines.refusal(false, refusal)?;
+    tell_refusal(&mut lines, false, refusal)?;
     Ok(Answer::refused(lines.text))
 }
 
@@ -57,19 +58,21 @@ pub(crate) fn command_and_areas(bytes: &[u8]) -> Result<(Command<'_>, Areas<'_>)
 }
 
 // Tells the parameters by their names, where this is asked for.
-fn tell_parameters<T: Teller>(teller: &mut T, fields: bool, body: &CommandBody<'_>) -> Pushed
+#[tactic(auto, using(crate::proofs::Pieces::pieces))]
+fn tell_named_parameters<T: Teller>(teller: &mut T, fields: bool, body: &CommandBody<'_>) -> Pushed
     ensures { OnOk result (T.told teller.new ≡ T.told teller.old
         ++ flat_map T.marks (fields_told fields (command_fields body.now))) }
 {
     if !fields {
         return Ok(());
     }
-    teller.begin_list("fields")?;
+    teller.tell(&Piece::Opens(Some("fields"), Shape::List))?;
     tell_command_fields(teller, body)?;
-    teller.end_list()
+    teller.tell(&Piece::Closes(Shape::List))
 }
 
 /// Tells what stands behind the header of a command.
+#[tactic(auto, using(crate::proofs::Pieces::pieces))]
 pub(crate) fn tell_command_rest<T: Teller>(
     teller: &mut T,
     fields: bool,
@@ -80,7 +83,7 @@ pub(crate) fn tell_command_rest<T: Teller>(
         ++ flat_map T.marks (command_rest fields areas.now body.now)) }
 {
     tell_areas(teller, areas.handles(), areas, areas.params())?;
-    tell_parameters(teller, fields, body)
+    tell_named_parameters(teller, fields, body)
 }
 
 #[tactic(auto, unfolding(crate::specs::Show::command_line))]
@@ -175,6 +178,7 @@ pub(crate) fn response_and_areas(
 }
 
 // Tells the parameters by their names, where this is asked for.
+#[tactic(auto, using(crate::proofs::Pieces::pieces))]
 fn tell_reply_parameters<T: Teller>(teller: &mut T, fields: bool, body: &ReplyBody) -> Pushed
     ensures { OnOk result (T.told teller.new ≡ T.told teller.old
         ++ flat_map T.marks (fields_told fields (reply_fields body.now))) }
@@ -182,11 +186,12 @@ fn tell_reply_parameters<T: Teller>(teller: &mut T, fields: bool, body: &ReplyBo
     if !fields {
         return Ok(());
     }
-    teller.begin_list("fields")?;
+    teller.tell(&Piece::Opens(Some("fields"), Shape::List))?;
     tell_reply_fields(teller, body)?;
-    teller.end_list()
+    teller.tell(&Piece::Closes(Shape::List))
 }
 
+#[tactic(auto, using(crate::proofs::Pieces::pieces))]
 fn tell_reply_rest<T: Teller>(
     teller: &mut T,
     fields: bool,
@@ -197,7 +202,7 @@ fn tell_reply_rest<T: Teller>(
         ++ flat_map T.marks (reply_rest fields areas.now body.now)) }
 {
     tell_first_handle(teller, areas.handle())?;
-    teller.parameters(areas.params())?;
+    tell_parameters(teller, areas.params())?;
     tell_reply_parameters(teller, fields, body)?;
     tell_sessions(teller, areas)
 }
@@ -230,7 +235,7 @@ fn push_response_lines<const FIELDS: bool>(
         ++ response_lines FIELDS command size areas.now response.now) }
 {
     match response {
-        Response::Code(code) => push_code_line(&mut text.text, FIELDS, code.number()),
+        Response::Code(code) => tell_code_alone(text, code.number()),
         Response::Done { body, .. } => {
             push_name(&mut text.text, command, size)?;
             tell_reply_rest(text, FIELDS, areas, body)

@@ -8,3 +8,4 @@ pub mod OneDigest
 pub mod Told
 pub mod Allowing
 pub mod Searching
+pub mod Parts

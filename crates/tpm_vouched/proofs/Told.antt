@@ -27,11 +27,8 @@ use Rattle.tpm_log.proofs.Sound.{IsSound, log_ok}
 use Rattle.tpm_vouched.specs.Extends.{extends}
 use Rattle.tpm_vouched.specs.Record.{is_vouched, vouched, vouched_in}
 use Rattle.tpm_vouched.specs.Vouched.{Measured, ReadLog, TextOfPart, measured, measured_by, part_told, parts_in, parts_told, with_part}
+use Rattle.tpm_vouched.proofs.Parts.{or_false}
 use Rattle.tpm_vouched.proofs.OneDigest.{is_digest_in, one_digest}
-
-or_false : (b : Bool) → (b || false) ≡ b
-or_false true = refl
-or_false false = refl
 
 -- ---- the part
 

@@ -3,3 +3,4 @@ pub mod Vouched
 pub mod Record
 pub mod Allowed
 pub mod Order
+pub mod inner

@@ -4,7 +4,9 @@
 
 mod allowed;
 pub mod laws;
+mod measured_parts;
 mod record;
 
 pub use allowed::{AllowList, AllowedDigest};
-pub use record::{VouchedPart, vouched};
+pub use measured_parts::MeasuredParts;
+pub use record::{VouchedPart, extending_digest, vouched};

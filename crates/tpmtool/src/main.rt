@@ -39,7 +39,12 @@ impl<R: Files + Input> Inputs for Machine<'_, R> {
 
     type Source = Reads<Reader<R::File, R::Reader>>;
 
-    ghost offers = { λ _. record { opens = λ _ _. ⊤; stands = λ _. ⊤; is_folder = λ _ _. ⊤ } };
+    ghost offers = { λ _. record {
+      opens = λ _ _. ⊤;
+      stands = λ _. ⊤;
+      is_folder = λ _ _. ⊤;
+      fails = ⊤;
+    } };
 
     // `-` names standard input.
     fn open(&self, path: &str) -> Result<Self::Source, Cause> {

@@ -4,68 +4,34 @@
 package main
 
 import (
-	"crypto"
-	"crypto/ecdsa"
-	"crypto/rsa"
-	_ "crypto/sha1"
-	_ "crypto/sha256"
-	_ "crypto/sha512"
-	"crypto/x509"
 	"encoding/hex"
-	"encoding/pem"
 	"fmt"
 	"os"
 
 	"vinjakwe"
 )
 
-var hashes = map[vinjakwe.Hash]crypto.Hash{
-	vinjakwe.SHA1: crypto.SHA1, vinjakwe.SHA256: crypto.SHA256, vinjakwe.SHA384: crypto.SHA384,
-}
-
-// verified says whether the signature of a quote is by this key.
-func verified(key any, it *vinjakwe.Signature, quote []byte) bool {
-	hash := hashes[it.Hash].New()
-	hash.Write(quote)
-	digest := hash.Sum(nil)
-	switch key := key.(type) {
-	case *rsa.PublicKey:
-		return it.Scheme == vinjakwe.RSASSA && rsa.VerifyPKCS1v15(key, hashes[it.Hash], digest, it.Sig) == nil ||
-			it.Scheme == vinjakwe.RSAPSS && rsa.VerifyPSS(key, hashes[it.Hash], digest, it.Sig, nil) == nil
-	case *ecdsa.PublicKey:
-		return it.Scheme == vinjakwe.ECDSA && ecdsa.Verify(key, digest, it.R, it.S)
-	}
-	return false
-}
-
-// tell prints what the quoted registers of a bank say: of a record's data where the quote vouches for them, else the
-// digest.
+// tell prints what the quoted registers of a bank say, where the quote vouches for it.
 func tell(log []byte, attest *vinjakwe.Attest, quoted vinjakwe.SelectedBank) {
 	fmt.Println("bank", quoted.Bank)
 	if boot, err := vinjakwe.SecureBoot(log, quoted.Bank); !quoted.Has(7) {
 		fmt.Println("Secure Boot not quoted")
 	} else if err != nil {
-		fmt.Println("Secure Boot unknown", err.(*vinjakwe.BootFault).Kind)
+		fmt.Println("Secure Boot not told:", err)
 	} else {
 		fmt.Println("Secure Boot", boot.State)
 	}
 	for events := vinjakwe.NewEvents(log); events.Next(); {
 		it := events.Event()
-		part, isVouched := it.Vouched(attest)[quoted.Bank]
-		if !isVouched {
-			continue
-		}
-		if part == vinjakwe.WithoutLast {
-			it.Data = it.Data[:len(it.Data)-1]
-		}
-		variable, isVariable := it.Variable()
-		text, isText := it.Text()
+		_, isVouched := it.Vouched(attest)[quoted.Bank]
+		variable, isVariable := it.VouchedVariable(attest, quoted.Bank)
+		text, isText := it.VouchedText(attest, quoted.Bank)
 		switch name, digest := it.TypeName(), it.Digest(quoted.Bank); {
-		case name == "EV_EFI_BOOT_SERVICES_APPLICATION":
+		case name == "EV_EFI_BOOT_SERVICES_APPLICATION" && isVouched:
 			fmt.Printf("image %x\n", digest)
-		case name == "EV_EFI_VARIABLE_AUTHORITY" && isVariable && (part == vinjakwe.AllData || part == vinjakwe.WithoutLast):
+		case name == "EV_EFI_VARIABLE_AUTHORITY" && isVariable:
 			fmt.Printf("authority %s %x\n", variable.Name, digest)
-		case name == "EV_IPL" && isText && (part == vinjakwe.AllData || part == vinjakwe.BehindPrefix):
+		case name == "EV_IPL" && isText:
 			fmt.Println("loader", text)
 		}
 	}
@@ -81,18 +47,10 @@ func must[T any](it T, err error) T {
 
 func main() {
 	log, quote := must(os.ReadFile(os.Args[1])), must(os.ReadFile(os.Args[2]))
-	signature := must(vinjakwe.DecodeSignature(must(os.ReadFile(os.Args[3]))))
-	block, _ := pem.Decode(must(os.ReadFile(os.Args[4])))
-	if block == nil || !verified(must(x509.ParsePKIXPublicKey(block.Bytes)), signature, quote) {
-		must(0, fmt.Errorf("the signature is not by this key"))
-	}
+	signature, key := must(os.ReadFile(os.Args[3])), must(vinjakwe.PublicKey(must(os.ReadFile(os.Args[4]))))
 	nonce, registers := must(hex.DecodeString(os.Args[5])), must(vinjakwe.Selection(os.Args[6]))
-	verdict, lacks, err := vinjakwe.Check(log, quote,
-		vinjakwe.Expected{Nonce: nonce, Selection: registers, Hash: signature.Hash})
-	if must(verdict, err) != vinjakwe.Matches {
-		must(0, fmt.Errorf("%v %v", verdict, lacks))
-	}
-	attest := must(vinjakwe.DecodeAttest(quote))
+	expected := vinjakwe.Expected{Nonce: nonce, Selection: registers}
+	attest := must(vinjakwe.Verify(log, quote, signature, key, expected))
 	for _, quoted := range attest.Selections {
 		tell(log, attest, quoted)
 	}

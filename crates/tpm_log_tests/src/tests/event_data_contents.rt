@@ -1,193 +1,184 @@
 //! What the data of events say. The bytes are those of Python's struct and uuid.
 
-use crate::tests::log_parsed::bytes_of;
+use crate::tests::rows::{Asked, code, codes, ends, has, holds, made, names, rows};
 use arrayvec::ArrayVec;
 use std::process::Abort;
 use std::test::*;
 use tpm_event_data::{Content, DataKind, Event, Held, data_kind, packed_paths};
+use tpm_testing::word;
 
-const NO_ACTION: u32 = 0x3;
+// OPTION is "ubuntu" with the device paths PATHS, of which the first is \EFI\A.EFI and the second its end alone. DB
+// and MOKLIST are an entry of db and one of MokListRT, with a certificate of two bytes.
+const BYTES: &str = "
+    FIRST_PATH 04041a005c004500460049005c0041002e0045004600490000007fff0400
+    PATHS 04041a005c004500460049005c0041002e0045004600490000007fff04007fff0400
+    OPTION_PATHS 04041a005c004500460049005c0041002e0045004600490000007fff04007f0104007fff0400
+    IMAGE 00305d7e00000000003012000000000000000080010000001e0000000000000004041a005c004500460049005c0041002e0045004600490000007fff04000000000000000000
+    SECURE_BOOT 61dfe48bca93d211aa0d00e098032b8c0a00000000000000010000000000000053006500630075007200650042006f006f00740001
+    NO_SECURE_BOOT 61dfe48bca93d211aa0d00e098032b8c0a00000000000000000000000000000053006500630075007200650042006f006f007400
+    ORDER 61dfe48bca93d211aa0d00e098032b8c0900000000000000040000000000000042006f006f0074004f00720064006500720001000000
+    OPTION 61dfe48bca93d211aa0d00e098032b8c08000000000000003c0000000000000042006f006f00740030003000300041000100000026007500620075006e0074007500000004041a005c004500460049005c0041002e0045004600490000007fff04007f0104007fff04000102
+    DB cbb219d73a3d9645a3bcdad00e67656f0200000000000000120000000000000064006200bd9afa775903324dbd6028f4e78f784b3082
+    MOKLIST 50ab5d6046e00043abb63dd810dd8b23090000000000000012000000000000004d006f006b004c006900730074005200540050ab5d6046e00043abb63dd810dd8b233082
+    SBAT 50ab5d6046e00043abb63dd810dd8b230900000000000000070000000000000053006200610074004c006500760065006c00736261742c310a
+";
 
-const SEPARATOR: u32 = 0x4;
+struct Data;
 
-const ACTION: u32 = 0x5;
-
-const CRTM_VERSION: u32 = 0x8;
-
-const IPL: u32 = 0xD;
-
-const DRIVER_CONFIG: u32 = 0x8000_0001;
-
-const BOOT: u32 = 0x8000_0002;
-
-const APPLICATION: u32 = 0x8000_0003;
-
-const FIRMWARE_BLOB: u32 = 0x8000_0008;
-
-const HANDOFF_TABLES: u32 = 0x8000_0009;
-
-const AUTHORITY: u32 = 0x8000_00E0;
-
-// \EFI\A.EFI and the end of the path, and a path that is its end alone.
-const PATHS: &str = "04041a005c004500460049005c0041002e0045004600490000007fff04007fff0400";
-
-// An image at 0x7E5D3000 with the path \EFI\A.EFI, and 8 bytes behind it.
-const IMAGE: &str =
-    "00305d7e00000000003012000000000000000080010000001e0000000000000004041a005c004500460049005c0041002e0045004600490000007fff04000000000000000000";
-
-fn event(kind: u32, event: &[u8]) -> Event<'_> {
-    Event {
-        register: 7,
-        kind,
-        digests: ArrayVec::new(),
-        event,
+impl Asked for Data {
+    fn ask<R: Abort>(rt: &R, mut given: &str, mut told: &str) {
+        let kind = code(rt, word(&mut given));
+        let bytes = made(rt, BYTES, given);
+        let event = Event {
+            register: 7,
+            kind,
+            digests: ArrayVec::new(),
+            event: bytes.as_slice(),
+        };
+        says(rt, &mut told, event.content());
+        ends(rt, told);
     }
+}
+
+fn says(rt: &impl Abort, told: &mut &str, content: Content<'_>) {
+    match content {
+        Content::Text(text) => says_bytes(rt, told, "text", text.as_bytes()),
+        Content::Units(units) => says_bytes(rt, told, "units", units),
+        Content::Version(units) => says_bytes(rt, told, "version", units),
+        Content::VersionGuid(guid) => says_bytes(rt, told, "guid", guid),
+        Content::Separator(number) => says_number(rt, told, "separator", number as u64),
+        Content::Locality(number) => says_number(rt, told, "locality", number as u64),
+        Content::Variable(_, held) => holds_value(rt, told, held),
+        Content::Image(image) => {
+            says_bytes(rt, told, "image", image.path);
+            has(rt, BYTES, told, image.rest);
+        }
+        Content::Other => names(rt, told, "other"),
+        _ => names(rt, told, "more"),
+    }
+}
+
+fn holds_value(rt: &impl Abort, told: &mut &str, held: Held<'_>) {
+    match held {
+        Held::Byte(byte) => says_number(rt, told, "byte", byte as u64),
+        Held::Empty => names(rt, told, "empty"),
+        Held::Bytes => names(rt, told, "bytes"),
+        Held::BootOrder(numbers) => says_bytes(rt, told, "order", numbers),
+        Held::LoadOption(option) => says_bytes(rt, told, "option", option.path),
+        Held::Signatures(lists) => says_bytes(rt, told, "signatures", lists),
+        Held::Signature(one) => says_bytes(rt, told, "signature", one.value),
+    }
+}
+
+fn says_bytes(rt: &impl Abort, told: &mut &str, name: &str, bytes: &[u8]) {
+    names(rt, told, name);
+    has(rt, BYTES, told, bytes);
+}
+
+fn says_number(rt: &impl Abort, told: &mut &str, name: &str, number: u64) {
+    names(rt, told, name);
+    codes(rt, told, number);
 }
 
 #[test]
 fn a_type_has_a_kind(rt: HostRuntime) {
-    assert!(&rt; data_kind(FIRMWARE_BLOB) == DataKind::Blob);
-    assert!(&rt; data_kind(HANDOFF_TABLES) == DataKind::Tables);
-    assert!(&rt; data_kind(0x13) == DataKind::Open);
+    holds(
+        &rt,
+        data_kind(0x8000_0008) == DataKind::Blob,
+        "EV_EFI_PLATFORM_FIRMWARE_BLOB",
+    );
+    holds(
+        &rt,
+        data_kind(0x8000_0009) == DataKind::Tables,
+        "EV_EFI_HANDOFF_TABLES",
+    );
+    holds(&rt, data_kind(0x13) == DataKind::Open, "another");
 }
 
 #[test]
-fn texts_are_told(rt: HostRuntime) {
-    let rows = [
-        (
-            ACTION,
-            b"DMA Protection Disabled".as_slice(),
-            "DMA Protection Disabled",
-        ),
-        (
-            IPL,
-            b"set a\n\tset b\r\n\0".as_slice(),
-            "set a\n\tset b\r\n",
-        ),
-        (IPL, b"f\xC3\xBCr".as_slice(), "f\u{fc}r"),
-    ];
-    for (kind, data, text) in rows {
-        assert!(&rt; matches!(event(kind, data).content(), Content::Text(told) if told == text));
-    }
-    for data in [b"".as_slice(), b"\0", b"a\x1B", b"a\x7F", b"f\xFCr"] {
-        assert!(&rt; matches!(event(IPL, data).content(), Content::Other));
-    }
-    for data in [
-        b"r\0\n\0".as_slice(),
-        b"r\0\n\0\0",
-        b"r\0\n\0\0\0",
-        b"r\0\n\0\0\0\0",
-    ] {
-        let told = event(IPL, data).content();
-        assert!(&rt; matches!(told, Content::Units(units) if units == b"r\0\n\0".as_slice()));
-    }
-    assert!(&rt; matches!(event(IPL, b"r\0\0\0o").content(), Content::Other));
-    assert!(&rt; matches!(event(ACTION, b"r\0o\0").content(), Content::Other));
-}
-
-#[test]
-fn versions_and_numbers_are_told(rt: HostRuntime) {
-    let text = b"1\0.\x002\0.\x003\0.\x004\0\0\0".as_slice();
-    let told = event(CRTM_VERSION, text).content();
-    assert!(&rt; matches!(told, Content::Version(units) if units.len() == 14));
-    let guid = bytes_of("61dfe48bca93d211aa0d00e098032b8c");
-    let told = event(CRTM_VERSION, guid.as_slice()).content();
-    assert!(&rt; matches!(told, Content::VersionGuid(bytes) if bytes == guid.as_slice()));
-    let rows = [([0xFF; 4], 0xFFFF_FFFF), ([1, 0, 0, 0], 1)];
-    for (data, number) in rows {
-        let told = event(SEPARATOR, data.as_slice()).content();
-        assert!(&rt; matches!(told, Content::Separator(read) if read == number));
-    }
-    assert!(&rt; matches!(event(SEPARATOR, b"WBCL\0").content(), Content::Other));
-    let told = event(NO_ACTION, b"StartupLocality\0\x03").content();
-    assert!(&rt; matches!(told, Content::Locality(3)));
-    assert!(&rt;
-        matches!(
-            event(NO_ACTION, b"StartupLocality\0").content(),
-            Content::Other
-        )
+fn texts_versions_and_numbers_are_told(rt: HostRuntime) {
+    rows::<Data>(
+        &rt,
+        "
+        # Text of EV_ACTION and of EV_IPL, which may have line feeds, and UTF-8
+        5 444d412050726f74656374696f6e2044697361626c6564 is text 444d412050726f74656374696f6e2044697361626c6564
+        d 73657420610a0973657420620d0a00 is text 73657420610a0973657420620d0a
+        d 66c3bc72 is text 66c3bc72
+        d - is other
+        d 00 is other
+        d 611b is other
+        d 617f is other
+        d 66fc72 is other
+        # and UTF-16 of EV_IPL
+        d 72000a00 is units 72000a00
+        d 72000a0000 is units 72000a00
+        d 72000a000000 is units 72000a00
+        d 72000a00000000 is units 72000a00
+        d 720000006f is other
+        5 72006f00 is other
+        # EV_S_CRTM_VERSION: text, or a GUID
+        8 31002e0032002e0033002e0034000000 is version 31002e0032002e0033002e003400
+        8 61dfe48bca93d211aa0d00e098032b8c is guid 61dfe48bca93d211aa0d00e098032b8c
+        # EV_SEPARATOR, and the start-up locality of EV_NO_ACTION
+        4 ffffffff is separator ffffffff
+        4 01000000 is separator 1
+        4 5742434c00 is other
+        3 537461727475704c6f63616c6974790003 is locality 3
+        3 537461727475704c6f63616c69747900 is other
+        ",
     );
 }
 
-// What a variable holds.
-fn held<'a>(rt: &impl Abort, kind: u32, data: &'a [u8]) -> Held<'a> {
-    match event(kind, data).content() {
-        Content::Variable(_, held) => Some(held),
-        _ => None,
-    }
-    .expect(rt, "a variable")
-}
-
-// SecureBoot, which is 1.
-const SECURE_BOOT: &str =
-    "61dfe48bca93d211aa0d00e098032b8c0a00000000000000010000000000000053006500630075007200650042006f006f00740001";
-
-// The same, which holds nothing.
-const NO_SECURE_BOOT: &str =
-    "61dfe48bca93d211aa0d00e098032b8c0a00000000000000000000000000000053006500630075007200650042006f006f007400";
-
-// The options 1 and 0, in this order.
-const ORDER: &str =
-    "61dfe48bca93d211aa0d00e098032b8c0900000000000000040000000000000042006f006f0074004f00720064006500720001000000";
-
-// "ubuntu" with two device paths.
-const OPTION: &str =
-    "61dfe48bca93d211aa0d00e098032b8c08000000000000003c0000000000000042006f006f00740030003000300041000100000026007500620075006e0074007500000004041a005c004500460049005c0041002e0045004600490000007fff04007f0104007fff04000102";
-
-// An entry of db and one of MokListRT, with a certificate of two bytes.
-const AUTHORITIES: [&str; 2] = [
-    "cbb219d73a3d9645a3bcdad00e67656f0200000000000000120000000000000064006200bd9afa775903324dbd6028f4e78f784b3082",
-    "50ab5d6046e00043abb63dd810dd8b23090000000000000012000000000000004d006f006b004c006900730074005200540050ab5d6046e00043abb63dd810dd8b233082",
-];
-
-// SbatLevel of shim, which is a text.
-const SBAT: &str =
-    "50ab5d6046e00043abb63dd810dd8b230900000000000000070000000000000053006200610074004c006500760065006c00736261742c310a";
-
 #[test]
 fn what_variables_hold_is_told(rt: HostRuntime) {
-    let bytes = bytes_of(SECURE_BOOT);
-    assert!(&rt; matches!(held(&rt, DRIVER_CONFIG, bytes.as_slice()), Held::Byte(1)));
-    let bytes = bytes_of(NO_SECURE_BOOT);
-    assert!(&rt; matches!(held(&rt, DRIVER_CONFIG, bytes.as_slice()), Held::Empty));
-    let bytes = bytes_of(ORDER);
-    let told = held(&rt, BOOT, bytes.as_slice());
-    assert!(&rt; matches!(told, Held::BootOrder(numbers) if numbers == [1, 0, 0, 0].as_slice()));
-    let bytes = bytes_of(OPTION);
-    let told = held(&rt, BOOT, bytes.as_slice());
-    assert!(&rt; matches!(told, Held::LoadOption(option) if option.path.len() == 38));
-    let bytes = bytes_of(AUTHORITIES[0]);
-    let told = held(&rt, DRIVER_CONFIG, bytes.as_slice());
-    assert!(&rt; matches!(told, Held::Signatures(lists) if lists.len() == 18));
-    for data in AUTHORITIES {
-        let bytes = bytes_of(data);
-        let told = held(&rt, AUTHORITY, bytes.as_slice());
-        assert!(&rt; matches!(told, Held::Signature(one) if one.value == [0x30, 0x82].as_slice()));
-    }
-    let bytes = bytes_of(SBAT);
-    assert!(&rt; matches!(held(&rt, AUTHORITY, bytes.as_slice()), Held::Bytes));
-}
-
-#[test]
-fn packed_paths_are_lent(rt: HostRuntime) {
-    let bytes = bytes_of(PATHS);
-    let mut sizes: ArrayVec<usize, 4> = ArrayVec::new();
-    for path in packed_paths(bytes.as_slice()) {
-        let _ = sizes.try_push(path.len());
-    }
-    assert!(&rt; sizes.as_slice() == [30, 4].as_slice());
-    let (cut, _) = bytes.as_slice().split_at(33.min(bytes.len()));
-    let mut paths = packed_paths(cut);
-    assert!(&rt; paths.next().is_some_and(|path| path.len() == 30));
-    assert!(&rt; paths.next().is_some_and(|path| path.len() == 3));
-    assert!(&rt; paths.next().is_none());
+    rows::<Data>(
+        &rt,
+        "
+        80000001 SECURE_BOOT is byte 1
+        80000001 NO_SECURE_BOOT is empty
+        80000002 ORDER is order 01000000
+        80000002 OPTION is option OPTION_PATHS
+        80000001 DB is signatures bd9afa775903324dbd6028f4e78f784b3082
+        800000e0 DB is signature 3082
+        800000e0 MOKLIST is signature 3082
+        800000e0 SBAT is bytes
+        ",
+    );
 }
 
 #[test]
 fn bytes_behind_the_path_of_an_image_are_lent(rt: HostRuntime) {
-    let bytes = bytes_of(IMAGE);
-    let told = event(APPLICATION, bytes.as_slice()).content();
-    assert!(&rt;
-        matches!(told, Content::Image(image) if (image.path.len(), image.rest.len()) == (30, 8))
+    rows::<Data>(
+        &rt,
+        "
+        80000003 IMAGE is image FIRST_PATH 0000000000000000
+        ",
+    );
+}
+
+struct Paths;
+
+impl Asked for Paths {
+    fn ask<R: Abort>(rt: &R, given: &str, mut told: &str) {
+        let bytes = made(rt, BYTES, given);
+        are_paths(rt, &mut told, bytes.as_slice());
+        ends(rt, told);
+    }
+}
+
+fn are_paths(rt: &impl Abort, told: &mut &str, bytes: &[u8]) {
+    for path in packed_paths(bytes) {
+        has(rt, BYTES, told, path);
+    }
+}
+
+#[test]
+fn packed_paths_are_lent(rt: HostRuntime) {
+    rows::<Paths>(
+        &rt,
+        "
+        PATHS is FIRST_PATH 7fff0400
+        PATHS <33 is FIRST_PATH 7fff04
+        ",
     );
 }

@@ -1,97 +1,72 @@
-//! Readers of a log: in pieces, that fail, and that never end.
+//! Readers of a log: that fail, that pause, and that never end.
 
 ghost use Rattle.std.specs.Prelude.{None};
 
-use crate::tests::log_parsed::{HEADER, WORKED, bytes_of};
+use crate::tests::log_parsed::{LOGS, is_answer};
+use crate::tests::log_pieces::has_fault;
+use crate::tests::rows::{holds, made};
 use std::process::Abort;
 use std::test::*;
-use tpm_log::{LogFault, LogFaultKind, replay_from};
+use tpm_log::{LogFaultKind, replay_from};
 use tpm_testing::Pieces;
-use tpm_types::{Alg, PcrIndex};
 use tpm_wire::{ReadFailed, SliceSource, Source};
 
-// What register 7 of SHA-1 is behind the worked log.
-const SEPARATED: &str = "b2a83b0ebf2f8374299a5b2bdfc31ea955ad7236";
+// What is told of register 7 behind the worked log.
+const SEPARATED: &str = "0004 7 b2a83b0ebf2f8374299a5b2bdfc31ea955ad7236";
 
-fn is_replayed(rt: &impl Abort, reader: &mut Pieces<'_>) {
-    let value = bytes_of(SEPARATED);
-    let register = PcrIndex::from_number(7).expect(rt, "a register");
-    match replay_from(reader) {
-        Ok(registers) => assert!(rt;
-            registers.read(Alg::Sha1, register).as_slice() == value.as_slice()
-        ),
-        Err(fault) => panic!(rt; "{fault:?}"),
+// Where the read with this number fails, no registers are answered, and no other fault; and no read is tried again.
+fn fails_at(rt: &impl Abort, log: &[u8], number: usize) {
+    let mut reader = Pieces::failing(log, 1, number);
+    match replay_from(&mut reader) {
+        Ok(_) => holds(rt, false, "a read that fails"),
+        Err(fault) => {
+            holds(rt, fault.kind == LogFaultKind::Device, "the kind");
+            holds(
+                rt,
+                fault.at as usize == number.saturating_sub(1),
+                "the place",
+            );
+        }
     }
+    holds(rt, reader.reads == number, "the reads");
 }
 
-fn has_fault(rt: &impl Abort, reader: &mut Pieces<'_>, kind: LogFaultKind, at: u32) {
-    match replay_from(reader) {
-        Ok(_) => panic!(rt; "{kind:?} at {at}"),
-        Err(fault) => assert_eq!(rt; fault, LogFault { kind, at }),
-    }
-}
-
-#[test]
-fn a_log_is_the_same_in_any_pieces(rt: HostRuntime) {
-    let log = bytes_of(WORKED);
-    for most in [1, 7, 64, 215] {
-        is_replayed(&rt, &mut Pieces::new(log.as_slice(), most));
-        // without its last byte
-        let cut = &log.as_slice()[..log.len().saturating_sub(1)];
-        has_fault(
-            &rt,
-            &mut Pieces::new(cut, most),
-            LogFaultKind::Truncated,
-            211,
-        );
-    }
-    has_fault(&rt, &mut Pieces::new(&[], 1), LogFaultKind::Truncated, 0);
-}
-
-// Never registers, and never another fault; and no read is tried again.
 #[test]
 fn a_read_that_fails_is_answered(rt: HostRuntime) {
-    let log = bytes_of(WORKED);
-    for k in 1..log.len().saturating_add(2) {
-        let mut reader = Pieces::failing(log.as_slice(), 1, k);
-        let given = k.saturating_sub(1) as u32;
-        has_fault(&rt, &mut reader, LogFaultKind::Device, given);
-        assert_eq!(rt; reader.reads, k);
+    let log = made(&rt, LOGS, "WORKED");
+    for number in 1..log.len().saturating_add(2) {
+        fails_at(&rt, log.as_slice(), number);
     }
     let mut reader = Pieces::failing(log.as_slice(), 1, log.len().saturating_add(2));
-    is_replayed(&rt, &mut reader);
+    is_answer(&rt, SEPARATED, replay_from(&mut reader));
 }
 
 // It is taken for the end, and no read comes behind it.
+fn pauses_at(rt: &impl Abort, log: &[u8], number: usize) {
+    let mut reader = Pieces::pausing(log, 32, number);
+    match replay_from(&mut reader) {
+        Ok(_) => holds(rt, false, "a read that gives no bytes"),
+        Err(fault) => holds(rt, fault.kind == LogFaultKind::Truncated, "the kind"),
+    }
+    holds(rt, reader.reads == number, "the reads");
+}
+
 #[test]
 fn a_read_that_gives_no_bytes_is_the_last(rt: HostRuntime) {
-    let log = bytes_of(WORKED);
-    for k in 1..5 {
-        let mut reader = Pieces::pausing(log.as_slice(), 32, k);
-        match replay_from(&mut reader) {
-            Ok(_) => panic!(rt; "{k}"),
-            Err(fault) => assert_eq!(rt; fault.kind, LogFaultKind::Truncated),
-        }
-        assert_eq!(rt; reader.reads, k);
+    let log = made(&rt, LOGS, "WORKED");
+    for number in 1..5 {
+        pauses_at(&rt, log.as_slice(), number);
     }
 }
 
 #[test]
 fn a_reader_that_never_ends_is_refused(rt: HostRuntime) {
-    has_fault(
-        &rt,
-        &mut Pieces::before_zeros(&[], 4096),
-        LogFaultKind::NotCryptoAgile,
-        4,
-    );
+    let none = replay_from(&mut Pieces::before_zeros(&[], 4096));
+    has_fault(&rt, none, "NotCryptoAgile 4");
     // Behind the header zeros are records of 16 bytes, at register 0 and of type 0.
-    let header = bytes_of(HEADER);
-    has_fault(
-        &rt,
-        &mut Pieces::before_zeros(header.as_slice(), 4096),
-        LogFaultKind::TooLong,
-        16_777_209,
-    );
+    let header = made(&rt, LOGS, "HEADER");
+    let zeros = replay_from(&mut Pieces::before_zeros(header.as_slice(), 4096));
+    has_fault(&rt, zeros, "TooLong 16777209");
 }
 
 // The record of an event of 4 MiB up to its event, behind a header of three algorithms; and a separator.
@@ -136,33 +111,27 @@ impl Source for Large<'_> {
     }
 }
 
-#[test]
-fn an_event_of_4_mib_is_stepped_over(rt: HostRuntime) {
-    let front = bytes_of(FRONT);
-    let back = bytes_of(SEPARATOR);
+fn steps_over(rt: &impl Abort, told: &str) {
+    let front = made(rt, "", FRONT);
+    let back = made(rt, "", SEPARATOR);
     let mut source = Large {
         front: SliceSource::new(front.as_slice()),
         made: 0,
         size: 4_194_304,
         back: SliceSource::new(back.as_slice()),
     };
-    let registers = match replay_from(&mut source) {
-        Ok(registers) => registers,
-        Err(fault) => panic!(rt; "{fault:?}"),
-    };
-    let register = PcrIndex::from_number(5).expect(&rt, "a register");
-    for (alg, value) in [
-        (Alg::Sha1, "9401dfc2f702ed0388fc14c68a5108d35ac7d600"),
-        (
-            Alg::Sha256,
-            "cf4bd6f9d7676c4539e7685760c67ece0ec7598e0f616e32ed1f9abdfcde7906",
-        ),
-        (
-            Alg::Sha384,
-            "1ca531a3038b1a039832a7bb93d87ef28a623b55bdaadf36facb08a3e42eb32a3504050df4bb650b2671570ae4771106",
-        ),
-    ] {
-        let value = bytes_of(value);
-        assert!(rt; registers.read(alg, register).as_slice() == value.as_slice());
-    }
+    is_answer(rt, told, replay_from(&mut source));
+}
+
+#[test]
+fn an_event_of_4_mib_is_stepped_over(rt: HostRuntime) {
+    steps_over(&rt, "0004 5 9401dfc2f702ed0388fc14c68a5108d35ac7d600");
+    steps_over(
+        &rt,
+        "000b 5 cf4bd6f9d7676c4539e7685760c67ece0ec7598e0f616e32ed1f9abdfcde7906",
+    );
+    steps_over(
+        &rt,
+        "000c 5 1ca531a3038b1a039832a7bb93d87ef28a623b55bdaadf36facb08a3e42eb32a3504050df4bb650b2671570ae4771106",
+    );
 }

@@ -1,8 +1,8 @@
 //! Quotes that a software TPM signed, beside the logs whose records it was extended with: what `tpm2_quote
 //! -m` wrote of them. Their signatures are those of the keys in checks/quotes.
 
-use crate::tests::log_parsed::bytes_of;
-use arrayvec::ArrayVec;
+use crate::tests::quote_quotes::{are_selected, is_refusal};
+use crate::tests::rows::{Asked, codes, counts, ends, has, hash, holds, made, names, rows};
 use std::process::Abort;
 use std::test::*;
 use tpm_boot_laws::boot_to_quote;
@@ -13,17 +13,26 @@ use tpm_quote::{
     AttestFault, NotSelected, check_attest, decode_attest, first_not_selected, nonce_matches,
     selects_none,
 };
-use tpm_types::{Alg, Attest, ClockInfo, Lent, PcrIndex, Selection, Selections};
+use tpm_testing::word;
+use tpm_types::{Alg, Attest, ClockInfo, Lent, Selection, Selections};
 use tpm_vouched::laws::records_of_the_quote;
-use tpm_wire::response_code::{INSUFFICIENT, SIZE, VALUE};
-use tpm_wire::{Buffer, Refusal};
+use tpm_wire::Buffer;
 
-// The nonce that was sent for each quote.
-const SENT: &str = "c0ffee0000000000000000000000000000000000";
-
-// A quote of registers 10 to 12, which no record of its log extends, signed under SHA-256.
-const NOT_MEASURED: &str =
-    "ff54434780180022000beea405b3af96d6844c54bb6d07db02e11983f95002ae2af9f1a807fd8e86bcc90014c0ffee00000000000000000000000000000000000000000000000357000000010000000001201910230016363600000001000b03001c0000202ea9ab9198d1638007400cd2c3bef1cc745b864b76011a0e1bc52180ac6452d4";
+// SENT is the nonce that was sent for each quote. NOT_MEASURED is of registers 10 to 12, which no record of its log
+// extends, signed under SHA-256; RSA_SHA1 of registers 0 to 7 of SHA-1, signed under SHA-1; TWO_BANKS of registers 0
+// and 7 of SHA-1 and of SHA-256, and ALL of registers 0 to 7 of SHA-256, both signed under SHA-256. NOTHING is what
+// ALL would end with if its one entry selected nothing, with the digest of no bytes: that of Python's hashlib.
+const BYTES: &str = "
+    SENT c0ffee0000000000000000000000000000000000
+    NOT_MEASURED ff54434780180022000beea405b3af96d6844c54bb6d07db02e11983f95002ae2af9f1a807fd8e86bcc90014c0ffee00000000000000000000000000000000000000000000000357000000010000000001201910230016363600000001000b03001c0000202ea9ab9198d1638007400cd2c3bef1cc745b864b76011a0e1bc52180ac6452d4
+    RSA_SHA1 ff54434780180022000b1a73441ad0cbefa9a585c9eecf45b0a659474b922f3262efa20710e2e1e998250014c0ffee0000000000000000000000000000000000000000000000049c000000010000000001201910230016363600000001000403ff00000014e215d07ab7586c5886cb9f004151306057d0de8f
+    TWO_BANKS ff54434780180022000b8843e5f582d9d3270cfac1e4ba6d2343d12b3afca836e17262c53012042188590014c0ffee000000000000000000000000000000000000000000000003b8000000010000000001201910230016363600000002000403810000000b038100000020aafede955a1083bbe3492ef7a86ee56e9c872986902e2cd056ccc7e16324e03b
+    ALL ff54434780180022000bf13d66293d389a25a9c91bdf5cfe2bb12962333d51ae35a4cd562bab57d2b4aa0014c0ffee00000000000000000000000000000000000000000000000362000000010000000001201910230016363600000001000b03ff000000207b0bcb625c0390650432b56a226a82bf2ecef3fd09b3f73564f5b721e201827b
+    NOTHING 00000001000b030000000020e3b0c44298fc1c149afbf4c8996fb92427ae41e4649b934ca495991b7852b855
+    SIGNER 000b1a73441ad0cbefa9a585c9eecf45b0a659474b922f3262efa20710e2e1e99825
+    OTHER_SIGNER 000beea405b3af96d6844c54bb6d07db02e11983f95002ae2af9f1a807fd8e86bcc9
+    OTHER_DIGEST 2ea9ab9198d1638007400cd2c3bef1cc745b864b76011a0e1bc52180ac6452d4
+";
 
 // The log of NOT_MEASURED.
 const SEABIOS: &str = "
@@ -73,17 +82,6 @@ const SEABIOS: &str = "
     ea6a1206c28091ca285365f760d9167778f0dc1763d4854aafd40a0d00ea71bb243b0b2db729b9eb88e3c55a3f490fbff23457825051224a1fe6e6d3
     f480590cfa3a4a6b12c622d6ac366feb03cd17004ed004cb3f0d5273162694667904000000ffffffff
 ";
-
-// A quote of registers 0 to 7 of SHA-1, signed under SHA-1.
-const RSA_SHA1: &str =
-    "ff54434780180022000b1a73441ad0cbefa9a585c9eecf45b0a659474b922f3262efa20710e2e1e998250014c0ffee0000000000000000000000000000000000000000000000049c000000010000000001201910230016363600000001000403ff00000014e215d07ab7586c5886cb9f004151306057d0de8f";
-
-// Where the tokens of RSA_SHA1 begin, by the tables of Part 2, 10.12 and 10.11.1, and how many bytes it has.
-const TOKENS: [u32; 17] = [
-    0, 4, 6, 8, 42, 44, 64, 72, 76, 80, 81, 89, 93, 95, 96, 99, 101,
-];
-
-const END: usize = 121;
 
 // The log of RSA_SHA1.
 const OVMF: &str = "
@@ -135,123 +133,73 @@ const OVMF: &str = "
     a10406140083a5047c3e9e1c4fad65e05268d0b4d17fff0400
 ";
 
-// A quote of registers 0 and 7 of SHA-1 and of SHA-256, and one of registers 0 to 7 of SHA-256, both signed
-// under SHA-256.
-const TWO_BANKS: &str =
-    "ff54434780180022000b8843e5f582d9d3270cfac1e4ba6d2343d12b3afca836e17262c53012042188590014c0ffee000000000000000000000000000000000000000000000003b8000000010000000001201910230016363600000002000403810000000b038100000020aafede955a1083bbe3492ef7a86ee56e9c872986902e2cd056ccc7e16324e03b";
+// Where the tokens of RSA_SHA1 begin, by the tables of Part 2, 10.12 and 10.11.1, and how many bytes it has.
+const TOKENS: [u32; 17] = [
+    0, 4, 6, 8, 42, 44, 64, 72, 76, 80, 81, 89, 93, 95, 96, 99, 101,
+];
 
-const SHA256: &str =
-    "ff54434780180022000bf13d66293d389a25a9c91bdf5cfe2bb12962333d51ae35a4cd562bab57d2b4aa0014c0ffee00000000000000000000000000000000000000000000000362000000010000000001201910230016363600000001000b03ff000000207b0bcb625c0390650432b56a226a82bf2ecef3fd09b3f73564f5b721e201827b";
+const END: usize = 121;
 
-// The bytes of words of digits.
-fn log_of(text: &str) -> ArrayVec<u8, 4096> {
-    let mut bytes = ArrayVec::new();
-    for word in text.split_ascii_whitespace() {
-        let _ = bytes.try_extend_from_slice(bytes_of(word).as_slice());
-    }
-    bytes
-}
+// The bytes of an attestation, and each of its parts; or their fault.
+struct Attests;
 
-fn registers_of(rt: &impl Abort, log: &str) -> Registers {
-    match replay(log_of(log).as_slice()) {
-        Ok(registers) => registers,
-        Err(fault) => panic!(rt; "{fault:?}"),
-    }
-}
-
-// The text with this byte at this place.
-fn changed(text: &str, at: usize, byte: u8) -> ArrayVec<u8, 1024> {
-    let mut bytes = bytes_of(text);
-    if let Some(place) = bytes.as_mut_slice().get_mut(at) {
-        *place = byte;
-    }
-    bytes
-}
-
-fn refuses(rt: &impl Abort, bytes: &[u8], code: u32, at: u32) {
-    let refusal = Refusal { code, at };
-    match decode_attest(bytes) {
-        Ok(_) => panic!(rt; "{refusal:?}"),
-        Err(found) => assert_eq!(rt; found, refusal),
+impl Asked for Attests {
+    fn ask<R: Abort>(rt: &R, given: &str, mut told: &str) {
+        let bytes = made(rt, BYTES, given);
+        match decode_attest(bytes.as_slice()) {
+            Ok(attest) => {
+                has_parts(rt, &mut told, &attest);
+                is_spelled(rt, &attest, bytes.as_slice());
+            }
+            Err(refusal) => is_refusal(rt, &mut told, refusal),
+        }
+        ends(rt, told);
     }
 }
 
-// These registers of a bank, and of no other.
-fn required(rt: &impl Abort, hash: Alg, select: [u8; 3]) -> Selections {
-    match Selections::new(&[Selection { hash, select }]) {
-        Some(selections) => selections,
-        None => panic!(rt; "one entry"),
-    }
+fn has_parts(rt: &impl Abort, told: &mut &str, attest: &Attest<'_>) {
+    has(rt, BYTES, told, attest.signer.as_slice());
+    has(rt, BYTES, told, attest.extra_data.as_slice());
+    is_clock(rt, told, &attest.clock_info);
+    codes(rt, told, attest.firmware_version);
+    are_selected(rt, told, attest.quote.selections.as_slice());
+    has(rt, BYTES, told, attest.quote.digest.as_slice());
 }
 
-fn missing(rt: &impl Abort, bank: Alg, register: u32) -> NotSelected {
-    let register = PcrIndex::from_number(register).expect(rt, "a register");
-    NotSelected { bank, register }
+fn is_clock(rt: &impl Abort, told: &mut &str, clock_info: &ClockInfo) {
+    codes(rt, told, clock_info.clock);
+    counts(rt, told, clock_info.reset_count as u64);
+    counts(rt, told, clock_info.restart_count as u64);
+    names(rt, told, if clock_info.safe { "safe" } else { "unsafe" });
 }
 
-// What is answered of these bytes beside the registers.
-fn answer(
-    rt: &impl Abort,
-    bytes: &[u8],
-    registers: &Registers,
-    hash: Alg,
-    nonce: &str,
-    required: &Selections,
-) -> Result<(), AttestFault> {
-    match decode_attest(bytes) {
-        Ok(attest) => check_attest(
-            registers,
-            &attest,
-            hash,
-            bytes_of(nonce).as_slice(),
-            required,
-        ),
-        Err(refusal) => panic!(rt; "{refusal:?}"),
-    }
+fn is_spelled(rt: &impl Abort, attest: &Attest<'_>, bytes: &[u8]) {
+    let len = attest.len();
+    assert!(rt; len <= 4096);
+    let mut out = Buffer::new();
+    attest.put(&mut out);
+    holds(rt, out.as_slice() == bytes && len == bytes.len(), "spelled");
 }
 
 #[test]
 fn each_part_of_a_quote_is_decoded_and_put_back(rt: HostRuntime) {
-    let bytes = bytes_of(RSA_SHA1);
-    let attest = match decode_attest(bytes.as_slice()) {
-        Ok(attest) => attest,
-        Err(refusal) => panic!(rt; "{refusal:?}"),
-    };
-    let signer = bytes_of("000b1a73441ad0cbefa9a585c9eecf45b0a659474b922f3262efa20710e2e1e99825");
-    let clock_info = ClockInfo {
-        clock: 0x49c,
-        reset_count: 1,
-        restart_count: 0,
-        safe: true,
-    };
-    let register = Selection {
-        hash: Alg::Sha1,
-        select: [0xff, 0, 0],
-    };
-    assert!(rt; attest.signer.as_slice() == signer.as_slice());
-    assert!(rt; attest.extra_data.as_slice() == bytes_of(SENT).as_slice());
-    assert!(rt; attest.clock_info == clock_info);
-    assert!(rt; attest.firmware_version == 0x2019_1023_0016_3636);
-    assert!(rt; attest.quote.selections.as_slice() == [register].as_slice());
-    assert!(rt;
-        attest.quote.digest.as_slice()
-            == bytes_of("e215d07ab7586c5886cb9f004151306057d0de8f").as_slice()
+    rows::<Attests>(
+        &rt,
+        "
+        RSA_SHA1 is SIGNER SENT 49c 1 0 safe 2019102300163636 4 ff0000 e215d07ab7586c5886cb9f004151306057d0de8f
+        NOT_MEASURED is OTHER_SIGNER SENT 357 1 0 safe 2019102300163636 b 001c00 OTHER_DIGEST
+        RSA_SHA1 80=00 is SIGNER SENT 49c 1 0 unsafe 2019102300163636 4 ff0000 e215d07ab7586c5886cb9f004151306057d0de8f
+        ",
     );
-    let mut out = Buffer::new();
-    attest.put(&mut out);
-    assert!(rt; out.as_slice() == bytes.as_slice() && attest.len() == END);
     attest_or_fault();
 }
 
 #[test]
 fn a_quote_is_spelled_from_its_parts(rt: HostRuntime) {
-    let signer = bytes_of("000beea405b3af96d6844c54bb6d07db02e11983f95002ae2af9f1a807fd8e86bcc9");
-    let nonce = bytes_of(SENT);
-    let bytes = bytes_of(NOT_MEASURED);
-    let decoded = match decode_attest(bytes.as_slice()) {
-        Ok(decoded) => decoded,
-        Err(refusal) => panic!(rt; "{refusal:?}"),
-    };
+    let signer = made(&rt, BYTES, "OTHER_SIGNER");
+    let nonce = made(&rt, BYTES, "SENT");
+    let bytes = made(&rt, BYTES, "NOT_MEASURED");
+    let decoded = decode_attest(bytes.as_slice()).ok().expect(&rt, "a quote");
     let attest = Attest {
         signer: Lent::new(signer.as_slice()).expect(&rt, "a Name"),
         extra_data: Lent::new(nonce.as_slice()).expect(&rt, "a nonce"),
@@ -264,157 +212,211 @@ fn a_quote_is_spelled_from_its_parts(rt: HostRuntime) {
         firmware_version: 0x2019_1023_0016_3636,
         quote: decoded.quote,
     };
-    let len = attest.len();
-    assert!(rt; len <= 4096);
-    let mut out = Buffer::new();
-    attest.put(&mut out);
-    assert!(rt; out.as_slice() == bytes.as_slice() && len == bytes.len());
-    assert!(rt; Lent::<66>::new(&[0; 67]).is_none());
+    is_spelled(&rt, &attest, bytes.as_slice());
+    holds(
+        &rt,
+        Lent::<66>::new(&[0; 67]).is_none(),
+        "a Name of 67 bytes",
+    );
+}
+
+fn refuses(rt: &impl Abort, bytes: &[u8], mut told: &str) {
+    match decode_attest(bytes) {
+        Ok(_) => panic!(rt; "{told}"),
+        Err(refusal) => is_refusal(rt, &mut told, refusal),
+    }
+}
+
+// Where the last token begins that begins within so many bytes.
+fn token_at(end: usize) -> u32 {
+    let mut at = 0;
+    for token in TOKENS {
+        if token as usize <= end {
+            at = token;
+        }
+    }
+    at
+}
+
+// Cut behind each byte: the token that is too short is at fault.
+#[test]
+fn a_quote_that_is_cut_has_a_fault(rt: HostRuntime) {
+    let bytes = made(&rt, BYTES, "RSA_SHA1");
+    holds(&rt, bytes.len() == END, "its length");
+    for end in 0..END {
+        let (front, _) = bytes.as_slice().split_at(end.min(bytes.len()));
+        match decode_attest(front) {
+            Ok(_) => holds(&rt, false, "a quote that is cut"),
+            Err(fault) => holds(
+                &rt,
+                (fault.code, fault.at) == (0x9A, token_at(end)),
+                "its fault",
+            ),
+        }
+    }
+    refuses(&rt, &[0xff; 5000], "refused 84 0");
 }
 
 #[test]
 fn bytes_that_are_no_quote_have_a_fault(rt: HostRuntime) {
-    // Cut behind each byte: the token that is too short is at fault.
-    let bytes = bytes_of(RSA_SHA1);
-    assert_eq!(rt; bytes.len(), END);
-    for end in 0..END {
-        let mut at = 0;
-        for token in TOKENS {
-            if token as usize <= end {
-                at = token;
-            }
+    rows::<Attests>(
+        &rt,
+        "
+        # a byte behind it
+        RSA_SHA1 00 is refused 95 121
+        # another magic, and the type of a certification
+        RSA_SHA1 3=46 is refused 84 0
+        RSA_SHA1 0=fe is refused 84 0
+        RSA_SHA1 5=17 is refused 84 4
+        RSA_SHA1 5=14 is refused 84 4
+        # a Name and a nonce of 67 bytes
+        RSA_SHA1 7=43 is refused 95 6
+        RSA_SHA1 43=43 is refused 95 42
+        # neither safe nor unsafe
+        RSA_SHA1 80=02 is refused 84 80
+        RSA_SHA1 80=ff is refused 84 80
+        # the information of a quote, which is judged as it is alone
+        RSA_SHA1 92=04 is refused 95 89
+        RSA_SHA1 95=04 is refused 84 95
+        ",
+    );
+}
+
+// These registers of a bank, and of no other; or of none.
+fn required(rt: &impl Abort, hash: Alg, text: &str) -> Selections {
+    match made(rt, "", text).as_slice() {
+        [first, second, third] => {
+            let select = [*first, *second, *third];
+            Selections::new(&[Selection { hash, select }]).expect(rt, text)
         }
-        refuses(&rt, &bytes.as_slice()[..end], INSUFFICIENT, at);
+        _ => Selections::default(),
     }
-    // A byte behind it, and more than a buffer has.
-    let mut longer = bytes_of(RSA_SHA1);
-    let _ = longer.try_push(0);
-    refuses(&rt, longer.as_slice(), SIZE, END as u32);
-    refuses(&rt, &[0xff; 5000], VALUE, 0);
-    // Another magic, and the type of a certification.
-    refuses(&rt, changed(RSA_SHA1, 3, 0x46).as_slice(), VALUE, 0);
-    refuses(&rt, changed(RSA_SHA1, 0, 0xfe).as_slice(), VALUE, 0);
-    refuses(&rt, changed(RSA_SHA1, 5, 0x17).as_slice(), VALUE, 4);
-    refuses(&rt, changed(RSA_SHA1, 5, 0x14).as_slice(), VALUE, 4);
-    // A Name and a nonce of 67 bytes.
-    refuses(&rt, changed(RSA_SHA1, 7, 67).as_slice(), SIZE, 6);
-    refuses(&rt, changed(RSA_SHA1, 43, 67).as_slice(), SIZE, 42);
-    // Neither safe nor unsafe; and unsafe.
-    refuses(&rt, changed(RSA_SHA1, 80, 2).as_slice(), VALUE, 80);
-    refuses(&rt, changed(RSA_SHA1, 80, 0xff).as_slice(), VALUE, 80);
-    assert!(rt; decode_attest(changed(RSA_SHA1, 80, 0).as_slice()).is_ok());
-    // The information of a quote is judged as it is alone.
-    refuses(&rt, changed(RSA_SHA1, 92, 4).as_slice(), SIZE, 89);
-    refuses(&rt, changed(RSA_SHA1, 95, 4).as_slice(), VALUE, 95);
+}
+
+fn registers_after(rt: &impl Abort, log: &str) -> Registers {
+    match log {
+        "SEABIOS" => replay(made(rt, "", SEABIOS).as_slice())
+            .ok()
+            .expect(rt, log),
+        "OVMF" => replay(made(rt, "", OVMF).as_slice()).ok().expect(rt, log),
+        _ => Registers::new(),
+    }
+}
+
+// A log, the hash of the signature, the nonce, what registers of which bank are required, and a quote.
+struct Answers;
+
+impl Asked for Answers {
+    fn ask<R: Abort>(rt: &R, mut given: &str, mut told: &str) {
+        let registers = registers_after(rt, word(&mut given));
+        let by = hash(rt, word(&mut given));
+        let nonce = made(rt, BYTES, word(&mut given));
+        let bank = hash(rt, word(&mut given));
+        let required = required(rt, bank, word(&mut given));
+        let bytes = made(rt, BYTES, given);
+        let attest = decode_attest(bytes.as_slice()).ok().expect(rt, given);
+        let answer = check_attest(&registers, &attest, by, nonce.as_slice(), &required);
+        is_answer(rt, &mut told, answer);
+        let says_nonce = !nonce_matches(&attest, nonce.as_slice());
+        holds(rt, says_nonce == (answer == Err(AttestFault::Nonce)), given);
+        ends(rt, told);
+    }
+}
+
+fn is_answer(rt: &impl Abort, told: &mut &str, answer: Result<(), AttestFault>) {
+    match answer {
+        Ok(()) => names(rt, told, "right"),
+        Err(AttestFault::Nonce) => names(rt, told, "nonce"),
+        Err(AttestFault::Digest) => names(rt, told, "digest"),
+        Err(AttestFault::NotSelected(missing)) => lacks(rt, told, missing),
+    }
+}
+
+fn lacks(rt: &impl Abort, told: &mut &str, missing: NotSelected) {
+    codes(rt, told, missing.bank.number() as u64);
+    counts(rt, told, missing.register.number() as u64);
 }
 
 #[test]
 fn a_quote_of_the_registers_after_its_log_is_the_one_that_was_asked_for(rt: HostRuntime) {
-    let seabios = registers_of(&rt, SEABIOS);
-    let ovmf = registers_of(&rt, OVMF);
-    let unmeasured = required(&rt, Alg::Sha256, [0, 0x1c, 0]);
-    let measured = required(&rt, Alg::Sha1, [0xff, 0, 0]);
-    let one = bytes_of(NOT_MEASURED);
-    let other = bytes_of(RSA_SHA1);
-    assert!(rt;
-        answer(
-            &rt,
-            one.as_slice(),
-            &seabios,
-            Alg::Sha256,
-            SENT,
-            &unmeasured
-        )
-        .is_ok()
+    rows::<Answers>(
+        &rt,
+        "
+        SEABIOS 000b SENT 000b 001c00 NOT_MEASURED is right
+        OVMF 0004 SENT 0004 ff0000 RSA_SHA1 is right
+        # the log of the other, another hash, and another digest
+        SEABIOS 0004 SENT 0004 ff0000 RSA_SHA1 is digest
+        OVMF 000b SENT 0004 ff0000 RSA_SHA1 is digest
+        OVMF 0004 SENT 0004 ff0000 RSA_SHA1 120=8e is digest
+        ",
     );
-    assert!(rt; answer(&rt, other.as_slice(), &ovmf, Alg::Sha1, SENT, &measured).is_ok());
-    // The log of the other, another hash, and another digest.
-    let differs = Err(AttestFault::Digest);
-    assert!(rt; answer(&rt, other.as_slice(), &seabios, Alg::Sha1, SENT, &measured) == differs);
-    assert!(rt; answer(&rt, other.as_slice(), &ovmf, Alg::Sha256, SENT, &measured) == differs);
-    let last = changed(RSA_SHA1, END - 1, 0x8e);
-    assert!(rt; answer(&rt, last.as_slice(), &ovmf, Alg::Sha1, SENT, &measured) == differs);
     boot_to_quote();
     records_of_the_quote();
 }
 
 #[test]
 fn another_nonce_comes_first(rt: HostRuntime) {
-    let seabios = registers_of(&rt, SEABIOS);
-    let bytes = bytes_of(RSA_SHA1);
-    let none = required(&rt, Alg::Sha384, [0, 0, 1]);
-    for nonce in [
-        "",
-        "c0ffee00000000000000000000000000000000",
-        "c0ffee000000000000000000000000000000000000",
-        "c0ffee0000000000000000000000000000000001",
-        "c1ffee0000000000000000000000000000000000",
-    ] {
-        let found = answer(&rt, bytes.as_slice(), &seabios, Alg::Sha1, nonce, &none);
-        assert!(rt; found == Err(AttestFault::Nonce), "{nonce}");
-    }
-    match decode_attest(bytes.as_slice()) {
-        Ok(attest) => {
-            assert!(rt; nonce_matches(&attest, bytes_of(SENT).as_slice()));
-            assert!(rt; !nonce_matches(&attest, &[]));
-        }
-        Err(refusal) => panic!(rt; "{refusal:?}"),
-    }
+    rows::<Answers>(
+        &rt,
+        "
+        SEABIOS 0004 - 000c 000001 RSA_SHA1 is nonce
+        SEABIOS 0004 c0ffee00000000000000000000000000000000 000c 000001 RSA_SHA1 is nonce
+        SEABIOS 0004 c0ffee000000000000000000000000000000000000 000c 000001 RSA_SHA1 is nonce
+        SEABIOS 0004 c0ffee0000000000000000000000000000000001 000c 000001 RSA_SHA1 is nonce
+        SEABIOS 0004 c1ffee0000000000000000000000000000000000 000c 000001 RSA_SHA1 is nonce
+        ",
+    );
 }
 
 #[test]
 fn each_required_register_has_to_be_selected(rt: HostRuntime) {
-    let registers = Registers::new();
-    let two = bytes_of(TWO_BANKS);
-    for (hash, select, register) in [
-        // 0 to 7, of which 1 comes first
-        (Alg::Sha256, [0xff, 0, 0], 1),
-        (Alg::Sha1, [0x81, 0, 0x80], 23),
-        // a bank that is not quoted
-        (Alg::Sha384, [0x80, 0, 0], 7),
-    ] {
-        let lacks = Err(AttestFault::NotSelected(missing(&rt, hash, register)));
-        let asked = required(&rt, hash, select);
-        assert!(rt; answer(&rt, two.as_slice(), &registers, Alg::Sha256, SENT, &asked) == lacks);
-    }
-    // What is selected may be more than what is required; the digest is judged after it.
-    let differs = Err(AttestFault::Digest);
-    let seven = required(&rt, Alg::Sha1, [0x80, 0, 0]);
-    assert!(rt; answer(&rt, two.as_slice(), &registers, Alg::Sha256, SENT, &seven) == differs);
-    let all = bytes_of(SHA256);
-    let seven = required(&rt, Alg::Sha256, [0x80, 0, 0]);
-    assert!(rt; answer(&rt, all.as_slice(), &registers, Alg::Sha256, SENT, &seven) == differs);
+    rows::<Answers>(
+        &rt,
+        "
+        # 0 to 7, of which 1 comes first
+        none 000b SENT 000b ff0000 TWO_BANKS is b 1
+        none 000b SENT 0004 810080 TWO_BANKS is 4 23
+        # a bank that is not quoted
+        none 000b SENT 000c 800000 TWO_BANKS is c 7
+        # What is selected may be more than what is required; the digest is judged after it.
+        none 000b SENT 0004 800000 TWO_BANKS is digest
+        none 000b SENT 000b 800000 ALL is digest
+        ",
+    );
 }
 
 #[test]
 fn a_quote_of_no_register_covers_nothing(rt: HostRuntime) {
-    // One entry that selects nothing, and the digest of no bytes: that of Python's hashlib.
-    let mut bytes = bytes_of(SHA256);
-    bytes.truncate(89);
-    let _ = bytes.try_extend_from_slice(bytes_of(
-        "00000001000b030000000020e3b0c44298fc1c149afbf4c8996fb92427ae41e4649b934ca495991b7852b855",
-    ).as_slice());
-    let registers = Registers::new();
-    let one = required(&rt, Alg::Sha256, [1, 0, 0]);
-    let nothing = Selections::default();
-    let lacks = Err(AttestFault::NotSelected(missing(&rt, Alg::Sha256, 0)));
-    assert!(rt; answer(&rt, bytes.as_slice(), &registers, Alg::Sha256, SENT, &one) == lacks);
-    assert!(rt;
-        answer(
-            &rt,
-            bytes.as_slice(),
-            &registers,
-            Alg::Sha256,
-            SENT,
-            &nothing
-        )
-        .is_ok()
+    rows::<Answers>(
+        &rt,
+        "
+        none 000b SENT 000b 010000 ALL <89 NOTHING is b 0
+        none 000b SENT 000b - ALL <89 NOTHING is right
+        ",
     );
-    match decode_attest(bytes.as_slice()) {
-        Ok(attest) => assert!(rt; selects_none(&attest.quote.selections)),
-        Err(refusal) => panic!(rt; "{refusal:?}"),
-    }
-    assert!(rt; !selects_none(&one) && selects_none(&nothing));
-    assert!(rt; first_not_selected(&nothing, &nothing).is_none());
-    assert!(rt; first_not_selected(&nothing, &one) == Some(missing(&rt, Alg::Sha256, 0)));
+    let bytes = made(&rt, BYTES, "ALL <89 NOTHING");
+    let attest = decode_attest(bytes.as_slice()).ok().expect(&rt, "a quote");
+    holds(
+        &rt,
+        selects_none(&attest.quote.selections),
+        "a quote of nothing",
+    );
+    let one = required(&rt, Alg::Sha256, "010000");
+    let nothing = Selections::default();
+    holds(
+        &rt,
+        !selects_none(&one) && selects_none(&nothing),
+        "a selection",
+    );
+    holds(
+        &rt,
+        first_not_selected(&nothing, &nothing).is_none(),
+        "of nothing",
+    );
+    let mut told = "b 0";
+    lacks(
+        &rt,
+        &mut told,
+        first_not_selected(&nothing, &one).expect(&rt, "a register"),
+    );
 }

@@ -34,7 +34,7 @@ IsOfReading offered path other fault = fault ≡ Tool other
 abbrev pub FailsAt : Offered → (path : List ℕ) → Fault → Type 0
 FailsAt offered path (File at cause) = (at.now ≡ path) × IsUnread offered path cause
 FailsAt offered path (Tool Memory) = Unit {0}
-FailsAt offered path (Tool Write) = Unit {0}
+FailsAt offered path (Tool (Write failed)) = Unit {0}
 FailsAt offered path (Tool _) = ⊥
 
 -- There is a path, and the file at it is not opened or not read, or memory is wanted, or the answer isn't written.

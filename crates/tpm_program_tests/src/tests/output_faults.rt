@@ -236,11 +236,8 @@ fn each_write_that_fails_is_answered(rt: HostRuntime) {
         let rest = text.as_bytes();
         for writes in 0..rest.len() {
             let mut out = Expecting { rest, writes };
-            assert_eq!(rt;
-                perform(rt.alloc(), &mut out, call),
-                Err(ToolFault::Write),
-                "{text}"
-            );
+            let answer = perform(rt.alloc(), &mut out, call);
+            assert!(rt; matches!(answer, Err(ToolFault::Write(_))), "{text}");
         }
     }
 }

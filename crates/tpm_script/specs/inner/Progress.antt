@@ -4,15 +4,15 @@ use Rattle.tpm_model.specs.Steps.{History, Origin}
 use Rattle.tpm_model.specs.Runs.{after}
 use Rattle.tpm_device.specs.declared.device.Device.{Device}
 use Rattle.tpm_device.specs.Stands.{Stands}
-use Rattle.tpm_script.specs.declared.lines.Line.{Line as RustLine}
+use Rattle.tpm_script.specs.declared.lines.ScriptLine.{ScriptLine as RustLine}
 use Rattle.tpm_script.specs.declared.script.Run.{Run}
-use Rattle.tpm_script.specs.Script.{Line, Blank, Power, Command, NotHexadecimal, Script, events_from, line_of}
+use Rattle.tpm_script.specs.Script.{ScriptLine, Blank, Power, Command, NotHexadecimal, Script, events_from, line_of}
 use Rattle.tpm_script.specs.Script.{most_digits, refused_line, script_text}
-use Rattle.tpm_script.specs.declared.lines.Line.TheVariants as rust
+use Rattle.tpm_script.specs.declared.lines.ScriptLine.TheVariants as rust
 use Rattle.tpm_output.specs.LineSinks.{Limits, LineStep}
 
 -- what was read of a line
-abbrev pub read_as : RustLine → Line
+abbrev pub read_as : RustLine → ScriptLine
 read_as rust.Blank = Blank
 read_as rust.Power = Power
 read_as (rust.Command bytes) = Command bytes.items
@@ -38,12 +38,12 @@ abbrev pub digits : Limits
 digits = record { counts = λ _. true; most = most_digits; long_ends = true }
 
 -- the number of the command behind this line
-abbrev pub next_command : ℕ → Line → ℕ
+abbrev pub next_command : ℕ → ScriptLine → ℕ
 next_command k (Command bytes) = k + 1
 next_command k _ = k
 
 -- What was read of the line was run, up to the other script, or it is refused.
-abbrev pub RunsTo : Line → LineStep Run → Option Run → Type 0
+abbrev pub RunsTo : ScriptLine → LineStep Run → Option Run → Type 0
 RunsTo l step (Some new) = record {
   accepted : l ≢ NotHexadecimal;
   performs : GoesThrough (record { events = events_from step.old.command (l ∷ []); refused = None })

@@ -3,9 +3,9 @@ use Rattle.std.specs.Prelude.{ℕ, List, [], Option, None, Some, if◌then◌els
 use Rattle.tpm_model.specs.Sessions.{Session}
 use Rattle.tpm_types.specs.declared.command_code.CommandCode.{CommandCode}
 use Rattle.tpm_hmac.specs.Hmac.{hmac}
+use Rattle.tpm_hmac.specs.Sessions.{whole_key}
 use Rattle.tpm_model.specs.Authorization as authorization
 use Rattle.tpm_session.specs.declared.evidence.Signed.{Signed}
-use Rattle.tpm_session.specs.Entities.{entity_in}
 
 -- who authorizes: a session, or none for a password
 abbrev pub authorizer_in : Option Session → authorization.Authorizer
@@ -16,7 +16,7 @@ authorizer_in (Some session) = authorization.Authorizer.BySession session
 abbrev pub signed_in : Signed → (p_hash : List ℕ) → authorization.Signed
 signed_in x p_hash = record {
   session = x.session.now;
-  key = authorization.key_for x.session.now (entity_in x.entity.now);
+  key = whole_key x.session.now.key x.follows.now;
   p_hash = p_hash;
   auth = x.auth.now;
 }

@@ -1,13 +1,18 @@
 -- What is told in place of a frame, as the program has it.
+use Rattle.std.specs.Prelude.{false, List}
 use Rattle.tpm_show.specs.declared.remark.Remark.TheVariants.{Fault, Stop, Packet, NoCapture, NoPacket, OtherLink}
 use Rattle.tpm_show.specs.declared.remark.Remark.{Remark}
-use Rattle.tpm_show.specs.Reports.{Report, fault_report, link_report, no_capture_report, no_packet_report}
-use Rattle.tpm_show.specs.Reports.{packet_report, stop_report}
+use Rattle.tpm_show.specs.Pieces.{Piece}
+use Rattle.tpm_show.specs.Reports.{Report, fault_at_told, fault_told, link_fault, no_capture_told, no_packet}
+use Rattle.tpm_show.specs.Reports.{numbered_told, packet_fault_told, report, stop_told}
+
+abbrev pub remark_told : Remark → List Piece
+remark_told (Fault number fault) = numbered_told number fault.now
+remark_told (Stop number fault at) = stop_told number fault.now at
+remark_told (Packet packet reason) = packet_fault_told packet reason.now
+remark_told NoCapture = no_capture_told
+remark_told (NoPacket port) = fault_told (no_packet port)
+remark_told (OtherLink number) = fault_at_told (link_fault number) 20
 
 abbrev pub report_of : Remark → Report
-report_of (Fault number fault) = fault_report number fault.now
-report_of (Stop number fault at) = stop_report number fault.now at
-report_of (Packet packet reason) = packet_report packet reason.now
-report_of NoCapture = no_capture_report
-report_of (NoPacket port) = no_packet_report port
-report_of (OtherLink number) = link_report number
+report_of remark = report false (remark_told remark)

@@ -1,5 +1,4 @@
 use Rattle.std.proofs.Common.{sym, subst, ap, ◌∙◌, length}
-use Rattle.tpm_event_data.specs.Contents.{content_of}
 use Rattle.tpm_c.specs.Parts.{part}
 use Rattle.tpm_c.proofs.Texts.{TextBegins, at_front, begins_of}
 use Rattle.tpm_c.proofs.record_text.tpm_log_text.Goals as goal

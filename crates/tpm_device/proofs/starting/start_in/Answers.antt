@@ -1,4 +1,4 @@
-use Rattle.std.proofs.Common.{ℕ, List, sym, ap, ◌∙◌}
+use Rattle.std.proofs.Common.{sym, ap, ◌∙◌}
 use Rattle.tpm_wire.specs.Reading.{read_all}
 use Rattle.tpm_types.specs.declared.handle_sets.BindHandle.{BindHandle}
 use Rattle.tpm_types.specs.declared.command_code.CommandCode.TheVariants as codes
@@ -22,5 +22,6 @@ returns-in-Ok-clause-read c =
             session_type = start.session_type;
             symmetric = start.symmetric;
             auth_hash = start.auth_hash;
-          })) (c.decode_start_into.ensures.bind ∙ c.bind.ensures ∙ ap (λ (hs : List ℕ). bind_in (second hs)) c.handles.ensures)),
+          })) (c.decode_start_into.ensures.bind ∙ c.bind_in.ensures
+          ∙ ap bind_in (c.second_handle.ensures ∙ ap second c.handles.ensures))),
     )

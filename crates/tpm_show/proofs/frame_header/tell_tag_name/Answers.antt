@@ -1,10 +1,12 @@
-use Rattle.std.proofs.Common.{◌≡◌, ◌++◌, Option, codes, subst}
+use Rattle.std.proofs.Common.{◌≡◌, ◌++◌, Option, flat_map, subst}
+use Rattle.std.proofs.lemmas.List.{append-nil}
 use Rattle.std.specs.Prelude.{OnOk}
 use Rattle.tpm_output.specs.Named.{Named}
-use Rattle.tpm_show.specs.Members.{name_member}
+use Rattle.tpm_show.specs.Headers.{tag_name}
 use Rattle.tpm_show.proofs.frame_header.tell_tag_name.Goals as goal
 
-pub returns : goal.returns
-returns c =
-    subst (λ (o : Option Named). OnOk c.name_member.result (c.name_member.new.self.writer.tokens
-    ≡ c.args.object.now.writer.tokens ++ name_member (codes "tag_name") o)) c.look_up.ensures c.name_member.ensures
+pub returns-in-Some : goal.returns-in-Some
+returns-in-Some g c =
+    let T = g.T.Teller in
+    subst (λ (o : Option Named). OnOk c.tell.result (T.told c.tell.new.self ≡ T.told c.args.teller.now ++ flat_map T.marks (tag_name o)))
+    c.in-Some.ensures (simp append-nil c.tell.ensures)

@@ -8,5 +8,5 @@ use Rattle.tpm_show.proofs.parts.tell_bits.Given as goal
 abbrev pub invariant-loop-bit : goal.invariant-loop-bit
 invariant-loop-bit g l =
     let marks = g.T.Teller.marks in
-    g.T.Teller.told l.teller ++ flat_map marks (map set_attribute (bits_set (map named_as (drop l.bit-index l.table)) l.fn.attrs))
-    ≡ g.T.Teller.told l.initial.teller ++ flat_map marks (map set_attribute (bits_set (map named_as l.table) l.fn.attrs))
+    g.T.Teller.told l.teller ++ flat_map marks (flat_map set_attribute (bits_set (map named_as (drop l.bit-index l.table)) l.fn.attrs))
+    ≡ g.T.Teller.told l.initial.teller ++ flat_map marks (flat_map set_attribute (bits_set (map named_as l.table) l.fn.attrs))

@@ -1,4 +1,4 @@
-use Rattle.std.proofs.Common.{◌≡◌, ◌++◌, ◌-◌, filter, flat_map, map}
+use Rattle.std.proofs.Common.{◌≡◌, ◌++◌, ◌-◌, filter, flat_map}
 use Rattle.std.specs.List.{range_with_len}
 use Rattle.tpm_types.specs.Tpms.{is_selected}
 use Rattle.tpm_show.specs.Parts.{register_part}
@@ -9,5 +9,5 @@ abbrev pub invariant-loop-number : goal.invariant-loop-number
 invariant-loop-number g l =
     let marks = g.T.Teller.marks in
     g.T.Teller.told l.teller
-    ++ flat_map marks (map register_part (filter (is_selected l.fn.selection.select) (range_with_len l.number (24 - l.number))))
-    ≡ g.T.Teller.told l.initial.teller ++ flat_map marks (map register_part (filter (is_selected l.fn.selection.select) (range_with_len 0 24)))
+    ++ flat_map marks (flat_map register_part (filter (is_selected l.fn.selection.select) (range_with_len l.number (24 - l.number))))
+    ≡ g.T.Teller.told l.initial.teller ++ flat_map marks (flat_map register_part (filter (is_selected l.fn.selection.select) (range_with_len 0 24)))

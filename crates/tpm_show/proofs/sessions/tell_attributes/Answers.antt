@@ -1,9 +1,10 @@
-use Rattle.std.proofs.Common.{append_assoc}
-use Rattle.tpm_show.specs.Sessions.{attributes_members}
+use Rattle.tpm_show.specs.Sessions.{attributes_told}
+use Rattle.tpm_show.proofs.Pieces.{pieces}
 use Rattle.tpm_show.proofs.sessions.tell_attributes.Goals as goal
 
 pub returns : goal.returns
-unfolding attributes_members
-returns c =
-    let written = simp (c.in_ok-text_member.ensures, c.as_str.ensures.value, c.in_ok-digits.ensures) at c.tell_attribute_names.ensures in
-    simp append_assoc at written
+unfolding attributes_told
+returns g c =
+    let written = simp (c.in_ok-tell_attribute_names.ensures, c.in_ok-tell-2.ensures, c.in_ok-tell.ensures) at c.tell-3.ensures in
+    let joined = simp pieces at written in
+    simp pieces joined

@@ -1,5 +1,5 @@
 use Rattle.std.proofs.Common.{◌≡◌, ◌++◌, ◌+◌, flat_map, drop}
-use Rattle.tpm_show.specs.Pieces.{sessions_from}
+use Rattle.tpm_show.specs.Sessions.{sessions_from}
 use Rattle.tpm_show.proofs.sessions.tell_each.Given as goal
 
 -- the sessions so far and those that are left are all

@@ -7,7 +7,7 @@ use Rattle.tpm_commands.specs.Handles.{first, second}
 use Rattle.tpm_commands.specs.declared.command.CommandBody.TheVariants as bodies
 use Rattle.tpm_commands.specs.declared.command_parameters.Params.TheVariants as params
 use Rattle.tpm_commands.specs.declared.response.ReplyBody.TheVariants as replies
-use Rattle.tpm_buffer.specs.Commands.{body_from, bind_in, nv_auth_in}
+use Rattle.tpm_buffer.specs.Commands.{body_from, bind_in, index_in, nv_auth_in, policy_in}
 use Rattle.tpm_model.specs.Actions.{action}
 use Rattle.tpm_device.specs.Stands.{holds}
 use Rattle.tpm_device.specs.inner.Actions.{acted, Steps, step_of}
@@ -21,22 +21,28 @@ pub returns-in-Startup-clause-stands : goal.returns-in-Startup-clause-stands
 returns-in-Startup-clause-stands c = rw c.in-Startup.is (c.start.ensures.stands c.args.nonce.now)
 
 pub returns-in-PcrExtend-clause-answer : goal.returns-in-PcrExtend-clause-answer
-returns-in-PcrExtend-clause-answer c = rw c.in-PcrExtend.is (rw c.register_or_null.ensures at (c.extend.ensures.answer c.args.nonce.now))
+returns-in-PcrExtend-clause-answer c =
+    rw c.in-PcrExtend.is (rw (c.pcr_or_null_in.ensures, c.first_handle-first.ensures) at (c.extend.ensures.answer c.args.nonce.now))
 
 pub returns-in-PcrExtend-clause-stands : goal.returns-in-PcrExtend-clause-stands
-returns-in-PcrExtend-clause-stands c = rw c.in-PcrExtend.is (rw c.register_or_null.ensures at (c.extend.ensures.stands c.args.nonce.now))
+returns-in-PcrExtend-clause-stands c =
+    rw c.in-PcrExtend.is (rw (c.pcr_or_null_in.ensures, c.first_handle-first.ensures) at (c.extend.ensures.stands c.args.nonce.now))
 
 pub returns-in-PcrEvent-clause-answer : goal.returns-in-PcrEvent-clause-answer
-returns-in-PcrEvent-clause-answer c = rw c.in-PcrEvent.is (rw c.register_or_null-in-PcrEvent.ensures at (c.event.ensures.answer c.args.nonce.now))
+returns-in-PcrEvent-clause-answer c =
+    rw c.in-PcrEvent.is (rw (c.pcr_or_null_in-in-PcrEvent.ensures, c.first_handle-first.ensures) at (c.event.ensures.answer c.args.nonce.now))
 
 pub returns-in-PcrEvent-clause-stands : goal.returns-in-PcrEvent-clause-stands
-returns-in-PcrEvent-clause-stands c = rw c.in-PcrEvent.is (rw c.register_or_null-in-PcrEvent.ensures at (c.event.ensures.stands c.args.nonce.now))
+returns-in-PcrEvent-clause-stands c =
+    rw c.in-PcrEvent.is (rw (c.pcr_or_null_in-in-PcrEvent.ensures, c.first_handle-first.ensures) at (c.event.ensures.stands c.args.nonce.now))
 
 pub returns-in-PcrReset-clause-answer : goal.returns-in-PcrReset-clause-answer
-returns-in-PcrReset-clause-answer c = rw c.in-PcrReset.is (rw c.register.ensures at (c.reset.ensures.answer c.args.nonce.now))
+returns-in-PcrReset-clause-answer c =
+    rw c.in-PcrReset.is (rw (c.register_in.ensures, c.first_handle-first.ensures) at (c.reset.ensures.answer c.args.nonce.now))
 
 pub returns-in-PcrReset-clause-stands : goal.returns-in-PcrReset-clause-stands
-returns-in-PcrReset-clause-stands c = rw c.in-PcrReset.is (rw c.register.ensures at (c.reset.ensures.stands c.args.nonce.now))
+returns-in-PcrReset-clause-stands c =
+    rw c.in-PcrReset.is (rw (c.register_in.ensures, c.first_handle-first.ensures) at (c.reset.ensures.stands c.args.nonce.now))
 
 pub returns-in-PcrRead-clause-answer : goal.returns-in-PcrRead-clause-answer
 returns-in-PcrRead-clause-answer c = rw c.in-PcrRead.is (c.read_registers.ensures c.args.nonce.now)
@@ -50,7 +56,7 @@ pub returns-in-StartAuthSession-clause-answer : goal.returns-in-StartAuthSession
 returns-in-StartAuthSession-clause-answer c =
     let is : bodies.StartAuthSession
     (record {
-      bind = c.bind.result;
+      bind = c.bind_in.result;
       nonce_caller = c.duplicate.result;
       session_type = c.in-StartAuthSession.session_type;
       symmetric =
@@ -66,7 +72,7 @@ returns-in-StartAuthSession-clause-answer c =
       session_type = c.in-StartAuthSession.session_type;
       symmetric = c.in-StartAuthSession.symmetric;
       auth_hash = c.in-StartAuthSession.auth_hash;
-    })) c.bind.ensures
+    })) (c.bind_in.ensures ∙ ap bind_in c.second_handle-second.ensures)
     ∙ ap (λ (m : List ℕ).
     bodies.StartAuthSession
     (record {
@@ -81,7 +87,8 @@ returns-in-StartAuthSession-clause-answer c =
     (c.start_session.ensures.answer)
 
 pub returns-in-StartAuthSession-clause-stands : goal.returns-in-StartAuthSession-clause-stands
-returns-in-StartAuthSession-clause-stands c = rw c.in-StartAuthSession.is (rw (c.bind.ensures, c.duplicate.ensures) at (c.start_session.ensures.stands))
+returns-in-StartAuthSession-clause-stands c =
+    rw c.in-StartAuthSession.is (rw (c.bind_in.ensures, c.second_handle-second.ensures, c.duplicate.ensures) at (c.start_session.ensures.stands))
 
 pub returns-in-FlushContext-clause-answer : goal.returns-in-FlushContext-clause-answer
 returns-in-FlushContext-clause-answer c = rw c.in-FlushContext.is (c.flush.ensures.answer c.args.nonce.now)
@@ -91,44 +98,55 @@ returns-in-FlushContext-clause-stands c = rw c.in-FlushContext.is (c.flush.ensur
 
 pub returns-in-PolicyPcr-clause-answer : goal.returns-in-PolicyPcr-clause-answer
 returns-in-PolicyPcr-clause-answer c =
-    let is : bodies.PolicyPcr c.policy.result c.in-PolicyPcr.pcr_digest c.in-PolicyPcr.selections ≡ body_from c.args.handles.now c.args.params.now =
-    rw c.in-PolicyPcr.is (ap (λ (s : ℕ). bodies.PolicyPcr s c.in-PolicyPcr.pcr_digest c.in-PolicyPcr.selections) c.policy.ensures) in
+    let is : bodies.PolicyPcr c.policy_in.result c.in-PolicyPcr.pcr_digest c.in-PolicyPcr.selections ≡ body_from c.args.handles.now c.args.params.now =
+    rw c.in-PolicyPcr.is (ap (λ (s : ℕ). bodies.PolicyPcr s c.in-PolicyPcr.pcr_digest c.in-PolicyPcr.selections)
+    (c.policy_in.ensures ∙ ap policy_in c.first_handle-first.ensures)) in
     subst (λ (b : CommandBody). acted replies.PolicyPcr c.policy_pcr.result ≡ action (holds c.args.self.now) b c.args.nonce.now) is
     (c.policy_pcr.ensures.answer c.args.nonce.now)
 
 pub returns-in-PolicyPcr-clause-stands : goal.returns-in-PolicyPcr-clause-stands
-returns-in-PolicyPcr-clause-stands c = rw c.in-PolicyPcr.is (rw c.policy.ensures at (c.policy_pcr.ensures.stands c.args.nonce.now))
+returns-in-PolicyPcr-clause-stands c =
+    rw c.in-PolicyPcr.is (rw (c.policy_in.ensures, c.first_handle-first.ensures) at (c.policy_pcr.ensures.stands c.args.nonce.now))
 
 pub returns-in-PolicyOr-clause-answer : goal.returns-in-PolicyOr-clause-answer
-returns-in-PolicyOr-clause-answer c = rw c.in-PolicyOr.is (rw c.policy-in-PolicyOr.ensures at (c.policy_or.ensures.answer c.args.nonce.now))
+returns-in-PolicyOr-clause-answer c =
+    rw c.in-PolicyOr.is (rw (c.policy_in-in-PolicyOr.ensures, c.first_handle-first.ensures) at (c.policy_or.ensures.answer c.args.nonce.now))
 
 pub returns-in-PolicyOr-clause-stands : goal.returns-in-PolicyOr-clause-stands
-returns-in-PolicyOr-clause-stands c = rw c.in-PolicyOr.is (rw c.policy-in-PolicyOr.ensures at (c.policy_or.ensures.stands c.args.nonce.now))
+returns-in-PolicyOr-clause-stands c =
+    rw c.in-PolicyOr.is (rw (c.policy_in-in-PolicyOr.ensures, c.first_handle-first.ensures) at (c.policy_or.ensures.stands c.args.nonce.now))
 
 pub returns-in-PolicyCommandCode-clause-answer : goal.returns-in-PolicyCommandCode-clause-answer
 returns-in-PolicyCommandCode-clause-answer c =
-    rw c.in-PolicyCommandCode.is (rw c.policy-in-PolicyCommandCode.ensures at (c.policy_command_code.ensures.answer c.args.nonce.now))
+    rw c.in-PolicyCommandCode.is
+    (rw (c.policy_in-in-PolicyCommandCode.ensures, c.first_handle-first.ensures) at (c.policy_command_code.ensures.answer c.args.nonce.now))
 
 pub returns-in-PolicyCommandCode-clause-stands : goal.returns-in-PolicyCommandCode-clause-stands
 returns-in-PolicyCommandCode-clause-stands c =
-    rw c.in-PolicyCommandCode.is (rw c.policy-in-PolicyCommandCode.ensures at (c.policy_command_code.ensures.stands c.args.nonce.now))
+    rw c.in-PolicyCommandCode.is
+    (rw (c.policy_in-in-PolicyCommandCode.ensures, c.first_handle-first.ensures) at (c.policy_command_code.ensures.stands c.args.nonce.now))
 
 pub returns-in-PolicyAuthValue-clause-answer : goal.returns-in-PolicyAuthValue-clause-answer
 returns-in-PolicyAuthValue-clause-answer c =
-    rw c.in-PolicyAuthValue.is (rw c.policy-in-PolicyAuthValue.ensures at (c.policy_auth_value.ensures.answer c.args.nonce.now))
+    rw c.in-PolicyAuthValue.is
+    (rw (c.policy_in-in-PolicyAuthValue.ensures, c.first_handle-first.ensures) at (c.policy_auth_value.ensures.answer c.args.nonce.now))
 
 pub returns-in-PolicyAuthValue-clause-stands : goal.returns-in-PolicyAuthValue-clause-stands
 returns-in-PolicyAuthValue-clause-stands c =
-    rw c.in-PolicyAuthValue.is (rw c.policy-in-PolicyAuthValue.ensures at (c.policy_auth_value.ensures.stands c.args.nonce.now))
+    rw c.in-PolicyAuthValue.is
+    (rw (c.policy_in-in-PolicyAuthValue.ensures, c.first_handle-first.ensures) at (c.policy_auth_value.ensures.stands c.args.nonce.now))
 
 pub returns-in-PolicyRestart-clause-answer : goal.returns-in-PolicyRestart-clause-answer
-returns-in-PolicyRestart-clause-answer c = rw c.in-PolicyRestart.is (rw c.policy-in-PolicyRestart.ensures at (c.policy_restart.ensures.answer c.args.nonce.now))
+returns-in-PolicyRestart-clause-answer c =
+    rw c.in-PolicyRestart.is (rw (c.policy_in-in-PolicyRestart.ensures, c.first_handle-first.ensures) at (c.policy_restart.ensures.answer c.args.nonce.now))
 
 pub returns-in-PolicyRestart-clause-stands : goal.returns-in-PolicyRestart-clause-stands
-returns-in-PolicyRestart-clause-stands c = rw c.in-PolicyRestart.is (rw c.policy-in-PolicyRestart.ensures at (c.policy_restart.ensures.stands c.args.nonce.now))
+returns-in-PolicyRestart-clause-stands c =
+    rw c.in-PolicyRestart.is (rw (c.policy_in-in-PolicyRestart.ensures, c.first_handle-first.ensures) at (c.policy_restart.ensures.stands c.args.nonce.now))
 
 pub returns-in-PolicyGetDigest-clause-answer : goal.returns-in-PolicyGetDigest-clause-answer
-returns-in-PolicyGetDigest-clause-answer c = rw c.in-PolicyGetDigest.is (rw c.policy-in-PolicyGetDigest.ensures at (c.policy_digest.ensures c.args.nonce.now))
+returns-in-PolicyGetDigest-clause-answer c =
+    rw c.in-PolicyGetDigest.is (rw (c.policy_in-in-PolicyGetDigest.ensures, c.first_handle-first.ensures) at (c.policy_digest.ensures c.args.nonce.now))
 
 pub returns-in-PolicyGetDigest-clause-stands : goal.returns-in-PolicyGetDigest-clause-stands
 returns-in-PolicyGetDigest-clause-stands c =
@@ -144,27 +162,34 @@ pub returns-in-NvDefineSpace-clause-stands : goal.returns-in-NvDefineSpace-claus
 returns-in-NvDefineSpace-clause-stands c = rw c.in-NvDefineSpace.is (c.define.ensures.stands c.args.nonce.now)
 
 pub returns-in-NvUndefineSpace-clause-answer : goal.returns-in-NvUndefineSpace-clause-answer
-returns-in-NvUndefineSpace-clause-answer c = rw c.in-NvUndefineSpace.is (rw c.second_index.ensures at (c.undefine.ensures.answer c.args.nonce.now))
+returns-in-NvUndefineSpace-clause-answer c =
+    rw c.in-NvUndefineSpace.is (rw (c.index_in.ensures, c.second_handle-second.ensures) at (c.undefine.ensures.answer c.args.nonce.now))
 
 pub returns-in-NvUndefineSpace-clause-stands : goal.returns-in-NvUndefineSpace-clause-stands
-returns-in-NvUndefineSpace-clause-stands c = rw c.in-NvUndefineSpace.is (rw c.second_index.ensures at (c.undefine.ensures.stands c.args.nonce.now))
+returns-in-NvUndefineSpace-clause-stands c =
+    rw c.in-NvUndefineSpace.is (rw (c.index_in.ensures, c.second_handle-second.ensures) at (c.undefine.ensures.stands c.args.nonce.now))
 
 pub returns-in-NvIncrement-clause-answer : goal.returns-in-NvIncrement-clause-answer
 returns-in-NvIncrement-clause-answer c =
-    rw c.in-NvIncrement.is (rw (c.by.ensures, c.second_index-in-NvIncrement.ensures) at (c.increment.ensures.answer c.args.nonce.now))
+    rw c.in-NvIncrement.is
+    (rw (c.nv_auth_in.ensures, c.first_handle-first.ensures, c.index_in-in-NvIncrement.ensures, c.second_handle-second.ensures)
+    at (c.increment.ensures.answer c.args.nonce.now))
 
 pub returns-in-NvIncrement-clause-stands : goal.returns-in-NvIncrement-clause-stands
 returns-in-NvIncrement-clause-stands c =
-    let is : bodies.NvIncrement c.by.result c.second_index-in-NvIncrement.result ≡ body_from c.args.handles.now c.args.params.now =
+    let is : bodies.NvIncrement c.nv_auth_in.result c.index_in-in-NvIncrement.result ≡ body_from c.args.handles.now c.args.params.now =
     rw c.in-NvIncrement.is
-    (ap (λ (a : NvAuthHandle). bodies.NvIncrement a c.second_index-in-NvIncrement.result) c.by.ensures
-    ∙ ap (λ (i : ℕ). bodies.NvIncrement (nv_auth_in (first c.args.handles.now)) i) c.second_index-in-NvIncrement.ensures) in
+    (ap (λ (a : NvAuthHandle). bodies.NvIncrement a c.index_in-in-NvIncrement.result) (c.nv_auth_in.ensures ∙ ap nv_auth_in c.first_handle-first.ensures)
+    ∙ ap (λ (i : ℕ). bodies.NvIncrement (nv_auth_in (first c.args.handles.now)) i)
+    (c.index_in-in-NvIncrement.ensures ∙ ap index_in c.second_handle-second.ensures)) in
     subst (λ (b : CommandBody). OnOk c.increment.result (Steps c.args.self.now c.increment.new.self (step_of b c.increment.new.body c.args.nonce.now))) is
     (c.increment.ensures.stands c.args.nonce.now)
 
 pub returns-in-NvRead-clause-answer : goal.returns-in-NvRead-clause-answer
 returns-in-NvRead-clause-answer c =
-    rw c.in-NvRead.is (rw (c.by-in-NvRead.ensures, c.second_index-in-NvRead.ensures) at (c.read_counter.ensures c.args.nonce.now))
+    rw c.in-NvRead.is
+    (rw (c.nv_auth_in-in-NvRead.ensures, c.first_handle-first.ensures, c.index_in-in-NvRead.ensures, c.second_handle-second.ensures)
+    at (c.read_counter.ensures c.args.nonce.now))
 
 pub returns-in-NvRead-clause-stands : goal.returns-in-NvRead-clause-stands
 returns-in-NvRead-clause-stands c =
@@ -173,7 +198,8 @@ returns-in-NvRead-clause-stands c =
     refl (λ o h. refl) (λ nv. refl)))
 
 pub returns-in-NvReadPublic-clause-answer : goal.returns-in-NvReadPublic-clause-answer
-returns-in-NvReadPublic-clause-answer c = rw c.in-NvReadPublic.is (rw c.first_index.ensures at (c.read_public.ensures c.args.nonce.now))
+returns-in-NvReadPublic-clause-answer c =
+    rw c.in-NvReadPublic.is (rw (c.index_in-in-NvReadPublic.ensures, c.first_handle-first.ensures) at (c.read_public.ensures c.args.nonce.now))
 
 pub returns-in-NvReadPublic-clause-stands : goal.returns-in-NvReadPublic-clause-stands
 returns-in-NvReadPublic-clause-stands c =

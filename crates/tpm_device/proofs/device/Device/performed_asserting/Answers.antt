@@ -1,4 +1,4 @@
-use Rattle.std.proofs.Common.{rules, ◌≡◌, ℕ, List, Err, refl, sym, ap, ◌∙◌}
+use Rattle.std.proofs.Common.{rules, ◌≡◌, ℕ, Err, refl, sym, ap, ◌∙◌}
 use Rattle.tpm_commands.specs.declared.command.CommandBody.TheVariants as bodies
 use Rattle.tpm_commands.specs.Handles.{first}
 use Rattle.tpm_commands.specs.declared.command_parameters.Params.TheVariants as params
@@ -21,9 +21,9 @@ returns c =
     let old : Begin = record { device = c.args.self.now; nonce = n; out = c.args.out.now } in
     let digest = c.in_ok-asserted.asserted.0 in
     let registers = c.in_ok-asserted.asserted.1 in
-    let named = sym (c.policy.ensures ∙ ap (λ (hs : List ℕ). policy_in (first hs)) c.handles.ensures) in
+    let named = sym (c.policy_in-session.ensures ∙ ap policy_in (c.first_handle.ensures ∙ ap first c.handles.ensures)) in
     body_done old c.policy_pcr.new.self c.roll.new.self x c.args.by.now (params.PolicyPcr digest registers)
-    (bodies.PolicyPcr c.policy.result digest registers) replies.PolicyPcr c.put_bare.new.out
+    (bodies.PolicyPcr c.policy_in-session.result digest registers) replies.PolicyPcr c.put_bare.new.out
     c.requires.ready (rw c.requires.asserts c.in_ok-asserted.ensures.read)
     (ap (λ (session : ℕ). bodies.PolicyPcr session digest registers) named) (sym c.requires.asserts)
     (c.in_ok-policy_pcr.ensures.answer n) (c.in_ok-policy_pcr.ensures.stands n)
@@ -46,9 +46,9 @@ returns-in_err-policy_pcr c =
     let old : Begin = record { device = c.args.self.now; nonce = n; out = c.args.out.now } in
     let digest = c.in_ok-asserted.asserted.0 in
     let registers = c.in_ok-asserted.asserted.1 in
-    let named = sym (c.policy.ensures ∙ ap (λ (hs : List ℕ). policy_in (first hs)) c.handles.ensures) in
+    let named = sym (c.policy_in-session.ensures ∙ ap policy_in (c.first_handle.ensures ∙ ap first c.handles.ensures)) in
     let is : c.from_residual-in_err-policy_pcr.result ≡ Err c.in_err-policy_pcr.field-0.0 = search rules in
     rw is (body_refused old c.policy_pcr.new.self x (params.PolicyPcr digest registers)
-    (bodies.PolicyPcr c.policy.result digest registers) c.in_err-policy_pcr.field-0.0
+    (bodies.PolicyPcr c.policy_in-session.result digest registers) c.in_err-policy_pcr.field-0.0
     (rw c.requires.asserts c.in_ok-asserted.ensures.read) (ap (λ (session : ℕ). bodies.PolicyPcr session digest registers) named)
     (c.in_err-policy_pcr.ensures.answer n) c.in_err-policy_pcr.ensures.refused)

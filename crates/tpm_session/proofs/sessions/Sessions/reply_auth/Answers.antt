@@ -10,7 +10,7 @@ returns-in-Ok-Some-clause-answer c = λ claim others x own command value owner k
     session_replies c.in-Ok-Some.session.now (loaded c.args.self.now a.session) claim.entity (entity_in c.args.entity.now) c.args.command claim.names
     claim.params claim.update_counter a others x c.args.params.now c.args.nonce.now c.reply.result
     (sym (rw c.in-Ok-Some.field-0-is at c.in-Ok-Some.ensures) ∙ named c.args.self.now a.session c.args.by own) (rw command at known) value owner
-    c.reply.ensures
+    (rw c.follows.ensures at c.reply.ensures)
 
 pub returns-in-Ok-None-clause-answer : goal.returns-in-Ok-None-clause-answer
 returns-in-Ok-None-clause-answer c = λ claim others x own command value owner known.

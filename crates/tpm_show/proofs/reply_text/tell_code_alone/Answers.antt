@@ -1,0 +1,10 @@
+use Rattle.tpm_show.specs.ReplyText.{code_alone_told}
+use Rattle.tpm_show.proofs.Pieces.{pieces}
+use Rattle.tpm_show.proofs.reply_text.tell_code_alone.Goals as goal
+
+pub returns : goal.returns
+unfolding code_alone_told
+returns g c =
+    let written = simp (c.in_ok-tell_code_in_line.ensures, c.in_ok-tell_all.ensures) at c.tell.ensures in
+    let joined = simp pieces at written in
+    simp pieces joined
