@@ -209,13 +209,11 @@ same_variables() {
     cmp "$room/out" checks/logs/variables.txt
 }
 
-# same_texts: the types of records by their names, and their text, of each log that has a list of lines, but of those
-# whose size alone is told there: C tells text in UTF-8 beyond ASCII.
+# same_texts: the types of records by their names, and their text, of each log that has a list of lines.
 same_texts() {
     for list in checks/logs/*.events; do
-        "$room/events" texts <"${list%.events}.log" |
-            awk 'NR == FNR { if (/ size [0-9]+$/) sized[FNR]; next } !(FNR in sized)' "$list" - >"$room/out"
-        sed -E '/ size [0-9]+$/d; /^log /!s/^[0-9]+ ([0-9]+ [^ ]+) [^ ]+ [^ ]+ [^ ]+ [^ ]+( text .*)?.*/\1\2/' \
+        "$room/events" texts <"${list%.events}.log" >"$room/out"
+        sed -E '/^log /!s/^[0-9]+ ([0-9]+ [^ ]+) [^ ]+ [^ ]+ [^ ]+ [^ ]+( text .*)?.*/\1\2/' \
             "$list" >"$room/out.wanted"
         cmp "$room/out" "$room/out.wanted" || { echo "$list: $(cat "$room/out")" && return 1; }
     done
