@@ -1,5 +1,5 @@
 -- What is told of a frame, piece by piece, whether in lines or in an object of JSON (this profile).
-use Rattle.std.specs.Prelude.{ℕ, List, [], ◌∷◌, ◌++◌, codes, Option, Some, None}
+use Rattle.std.specs.Prelude.{ℕ, List, [], ◌∷◌, ◌++◌, codes, Option, Some}
 use Rattle.tpm_show.specs.declared.piece.How.{How}
 use Rattle.tpm_show.specs.declared.piece.How.TheVariants as how
 use Rattle.tpm_show.specs.declared.piece.Shape.{Shape}

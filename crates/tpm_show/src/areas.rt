@@ -4,9 +4,9 @@ ghost use Rattle.std.specs.Prelude.{◌≡◌, ◌++◌, OnOk, flat_map};
 ghost use Rattle.tpm_show.specs.Areas.{areas_told, parameters_told, reply_areas_told};
 
 use crate::handle_names::tell_handles;
-use crate::piece::{How, LINE_END, Piece, Value};
+use crate::piece::{LINE_END, in_line, says};
 use crate::sessions::{HasSessions, tell_sessions};
-use crate::teller::{Teller, tell_all};
+use crate::teller::{Teller, tell_pieces};
 use tpm_output::text::Pushed;
 
 /// Tells parameters as they came.
@@ -15,14 +15,8 @@ pub(crate) fn tell_parameters<T: Teller>(teller: &mut T, bytes: &[u8]) -> Pushed
     ensures { OnOk result
         (T.told teller.new ≡ T.told teller.old ++ flat_map T.marks (parameters_told bytes.now)) }
 {
-    tell_all(
-        teller,
-        &[
-            Piece::InLine(How::Alone, Value::Word("parameters")),
-            Piece::Says(How::Behind, Some("parameters"), Value::Bytes(bytes)),
-            LINE_END,
-        ],
-    )
+    tell_pieces!(teller; in_line!(Alone Word "parameters"),
+        says!(Behind "parameters" Bytes bytes), LINE_END)
 }
 
 /// Tells what stands behind a command's header: its handles, its sessions, and its parameters as they came.

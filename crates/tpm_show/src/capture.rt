@@ -23,10 +23,10 @@ use crate::digits::is_blank;
 use crate::lines::Lines;
 use crate::object::Object;
 use crate::passage::Passage;
-use crate::piece::{How, Piece as PieceInCode, Value};
+use crate::piece::{in_line, says};
 use crate::remark::Remark;
 use crate::reports::push_remark;
-use crate::teller::{Teller, tell_all};
+use crate::teller::{Teller, tell_pieces};
 use crate::telling::Telling;
 use std::alloc::{AllocError, Global};
 use std::io::Write;
@@ -77,15 +77,9 @@ fn tell_front<T: Teller>(teller: &mut T, number: u64, direction: Direction) -> P
     ensures { OnOk result (T.told teller.new
         ≡ T.told teller.old ++ flat_map T.marks (front number direction)) }
 {
-    tell_all(
-        teller,
-        &[
-            PieceInCode::Says(How::Alone, Some("number"), Value::Number(number)),
-            PieceInCode::InLine(How::Behind, Value::Word(mark_of(direction))),
-            PieceInCode::Says(How::Nowhere, Some("kind"), Value::Word(kind_of(direction))),
-            PieceInCode::InLine(How::Alone, Value::Word(" ")),
-        ],
-    )
+    tell_pieces!(teller; says!(Alone "number" Number number),
+        in_line!(Behind Word mark_of(direction)), says!(Nowhere "kind" Word kind_of(direction)),
+        in_line!(Alone Word " "))
 }
 
 impl Capture {

@@ -15,11 +15,11 @@ use crate::command_names::{Listed, command_of};
 use crate::frame_header::{FrameHeader, header_in};
 use crate::library::library_response;
 use crate::passage::{Passage, tell_passage};
-use crate::piece::{How, LINE_END, Piece as PieceInCode, Value};
+use crate::piece::{LINE_END, says};
 use crate::refused::{
     status_if, tell_head, tell_refused_command, tell_refused_reply, tell_response_areas,
 };
-use crate::teller::{Teller, tell_all};
+use crate::teller::{Teller, tell_pieces};
 use crate::told::{command_and_areas, response_and_areas, tell_command_rest, tell_response_rest};
 use std::alloc::AllocError;
 use tpm_output::status::Status;
@@ -148,13 +148,7 @@ fn tell_untold<T: Teller>(teller: &mut T, sentence: &str) -> Result<Status, Allo
     ensures { IfOk result (λ status. (status ≡ Refused)
         × (T.told teller.new ≡ T.told teller.old ++ flat_map T.marks (untold sentence.now))) }
 {
-    tell_all(
-        teller,
-        &[
-            PieceInCode::Says(How::Alone, Some("fault"), Value::Word(sentence)),
-            LINE_END,
-        ],
-    )?;
+    tell_pieces!(teller; says!(Alone "fault" Word sentence), LINE_END)?;
     Ok(Status::Refused)
 }
 

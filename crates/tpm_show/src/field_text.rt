@@ -7,8 +7,8 @@ ghost use Rattle.tpm_show.specs.FieldText.{value_told};
 
 use crate::field::Field;
 use crate::field_names::value_name;
-use crate::piece::{How, LINE_END, Piece, Shape, Value};
-use crate::teller::{Teller, tell_all};
+use crate::piece::{LINE_END, Piece, Shape, in_line, says};
+use crate::teller::{Teller, tell_pieces};
 use tpm_output::text::Pushed;
 
 fn tell_value_name<T: Teller>(teller: &mut T, kind: &str, bytes: &[u8]) -> Pushed
@@ -19,7 +19,7 @@ fn tell_value_name<T: Teller>(teller: &mut T, kind: &str, bytes: &[u8]) -> Pushe
         return Ok(());
     };
     let name = name.whole(teller.alloc())?;
-    teller.tell(&Piece::Says(How::Behind, Some("value_name"), Value::Word(name.as_str())))
+    teller.tell(&says!(Behind "value_name" Word name.as_str()))
 }
 
 #[tactic(auto, using(crate::proofs::Pieces::pieces), unfolding(crate::specs::FieldText::field_begins))]
@@ -28,16 +28,9 @@ fn begin_field<T: Teller>(teller: &mut T, field: Field, bytes: &[u8]) -> Pushed
         ++ flat_map T.marks (field_begins field.indent field.named bytes.now)) }
 {
     let Field(indent, name, kind) = field;
-    tell_all(
-        teller,
-        &[
-            Piece::Opens(None, Shape::Object),
-            Piece::InLine(How::Alone, Value::Word(indent)),
-            Piece::Says(How::Alone, Some("name"), Value::Word(name)),
-            Piece::Says(How::Behind, Some("type"), Value::Word(kind)),
-            Piece::Says(How::Behind, Some("value"), Value::Bytes(bytes)),
-        ],
-    )?;
+    tell_pieces!(teller; Piece::Opens(None, Shape::Object), in_line!(Alone Word indent),
+        says!(Alone "name" Word name), says!(Behind "type" Word kind),
+        says!(Behind "value" Bytes bytes))?;
     tell_value_name(teller, kind, bytes)?;
     teller.tell(&LINE_END)
 }
@@ -68,10 +61,7 @@ pub(crate) fn end_structure<T: Teller>(teller: &mut T) -> Pushed
     ensures { OnOk result
         (T.told teller.new ≡ T.told teller.old ++ flat_map T.marks structure_ends) }
 {
-    tell_all(
-        teller,
-        &[Piece::Closes(Shape::List), Piece::Closes(Shape::Object)],
-    )
+    tell_pieces!(teller; Piece::Closes(Shape::List), Piece::Closes(Shape::Object))
 }
 
 /// Tells a number by its name, so far in.
@@ -85,15 +75,7 @@ pub(crate) fn tell_number<'a, T: Teller>(
     ensures { OnOk result (T.told teller.new ≡ T.told teller.old
         ++ flat_map T.marks (number_told indent.now name.now n)) }
 {
-    tell_all(
-        teller,
-        &[
-            Piece::Opens(None, Shape::Object),
-            Piece::InLine(How::Alone, Value::Word(indent)),
-            Piece::Says(How::Alone, Some("name"), Value::Word(name)),
-            Piece::Says(How::Behind, Some("number"), Value::Number(u64::from(n))),
-            LINE_END,
-            Piece::Closes(Shape::Object),
-        ],
-    )
+    tell_pieces!(teller; Piece::Opens(None, Shape::Object), in_line!(Alone Word indent),
+        says!(Alone "name" Word name), says!(Behind "number" Number u64::from(n)), LINE_END,
+        Piece::Closes(Shape::Object))
 }

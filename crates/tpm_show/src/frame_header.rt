@@ -10,8 +10,8 @@ ghost use Rattle.tpm_show.specs.Headers.{frame_header, header_in, reply_head, si
 
 use crate::command_names::command_of;
 use crate::explained::push_subject;
-use crate::piece::{How, LINE_END, Piece, Value};
-use crate::teller::{Teller, tell_all};
+use crate::piece::{How, LINE_END, Piece, Value, in_line, says};
+use crate::teller::{Teller, tell_pieces};
 use std::alloc::{AllocError, Global};
 use tpm_names::codes::code_meaning;
 use tpm_names::meaning::Meaning;
@@ -116,7 +116,7 @@ pub(crate) fn tell_code_in_line<T: Teller>(teller: &mut T, code: u32) -> Pushed
         return Ok(());
     };
     let name = meaning_name(teller.alloc(), code, meaning)?;
-    teller.tell(&Piece::InLine(How::Asked, Value::Word(name.as_str())))
+    teller.tell(&in_line!(Asked Word name.as_str()))
 }
 
 // ---- a header
@@ -132,11 +132,7 @@ fn tell_tag_name<T: Teller>(teller: &mut T, tag: u16) -> Pushed
         ≡ T.told teller.old ++ flat_map T.marks (tag_name (named_in tag_names tag))) }
 {
     match tag_name(tag) {
-        Some(named) => teller.tell(&Piece::Says(
-            How::Asked,
-            Some("tag_name"),
-            Value::Word(named.name),
-        )),
+        Some(named) => teller.tell(&says!(Asked "tag_name" Word named.name)),
         None => Ok(()),
     }
 }
@@ -147,13 +143,8 @@ fn tell_size_and_tag<T: Teller>(teller: &mut T, header: &FrameHeader) -> Pushed
         ≡ T.told teller.old ++ flat_map T.marks (size_and_tag header.now)) }
 {
     let FrameHeader { tag, size, .. } = *header;
-    tell_all(
-        teller,
-        &[
-            Piece::Says(How::Under, Some("size"), Value::Number(u64::from(size))),
-            Piece::Says(How::Under, Some("tag"), Value::Bytes(&tag.to_be_bytes())),
-        ],
-    )?;
+    tell_pieces!(teller; says!(Under "size" Number u64::from(size)),
+        says!(Under "tag" Bytes &tag.to_be_bytes()))?;
     tell_tag_name(teller, tag)
 }
 
@@ -163,16 +154,8 @@ fn tell_command<T: Teller>(teller: &mut T, code: u32) -> Pushed
         (T.told teller.new ≡ T.told teller.old ++ T.marks (command_told code)) }
 {
     match command_of(code) {
-        Some(command) => teller.tell(&Piece::Says(
-            How::Behind,
-            Some("command"),
-            Value::Word(command.name),
-        )),
-        None => teller.tell(&Piece::Says(
-            How::Behind,
-            Some("command"),
-            Value::Bytes(&code.to_be_bytes()),
-        )),
+        Some(command) => teller.tell(&says!(Behind "command" Word command.name)),
+        None => teller.tell(&says!(Behind "command" Bytes &code.to_be_bytes())),
     }
 }
 
@@ -183,20 +166,10 @@ pub(crate) fn tell_command_head<T: Teller>(teller: &mut T, header: &FrameHeader)
         ≡ T.told teller.old ++ flat_map T.marks (command_head header.now)) }
 {
     let code = header.code;
-    teller.tell(&Piece::InLine(How::Alone, Value::Word("command")))?;
+    teller.tell(&in_line!(Alone Word "command"))?;
     tell_command(teller, code)?;
     tell_size_and_tag(teller, header)?;
-    tell_all(
-        teller,
-        &[
-            Piece::Says(
-                How::Nowhere,
-                Some("command_code"),
-                Value::Bytes(&code.to_be_bytes()),
-            ),
-            LINE_END,
-        ],
-    )
+    tell_pieces!(teller; says!(Nowhere "command_code" Bytes &code.to_be_bytes()), LINE_END)
 }
 
 fn tell_answered<T: Teller>(teller: &mut T, command: Option<u32>) -> Pushed
@@ -220,10 +193,10 @@ pub(crate) fn tell_reply_head<T: Teller>(
         ≡ T.told teller.old ++ flat_map T.marks (reply_head command header.now)) }
 {
     let code = header.code;
-    teller.tell(&Piece::InLine(How::Alone, Value::Word("reply")))?;
+    teller.tell(&in_line!(Alone Word "reply"))?;
     tell_answered(teller, command)?;
     tell_size_and_tag(teller, header)?;
-    teller.tell(&Piece::Says(How::Under, Some("code"), Value::Code(code)))?;
+    teller.tell(&says!(Under "code" Code code))?;
     tell_code_name(teller, How::Behind, "code_name", code)?;
     teller.tell(&LINE_END)
 }

@@ -5,8 +5,8 @@ ghost use Rattle.tpm_output.specs.Named.{named_as};
 ghost use Rattle.tpm_show.specs.HandleNames.{handle_name, handle_named, handle_told, handles_from, handles_told};
 ghost use Rattle.tpm_show.specs.HandleNames.{name_in_line};
 
-use crate::piece::{How, LINE_END, Piece, Shape, Value};
-use crate::teller::{Teller, tell_all};
+use crate::piece::{How, LINE_END, Piece, Shape, Value, in_line};
+use crate::teller::{Teller, tell_pieces};
 use tpm_output::named::{Named, look_up};
 use tpm_output::names;
 use tpm_output::text::Pushed;
@@ -78,7 +78,7 @@ fn tell_name_in_line<T: Teller>(teller: &mut T, handle: u32) -> Pushed
         ≡ T.told teller.old ++ flat_map T.marks (name_in_line (handle_named handle))) }
 {
     match handle_name(handle) {
-        Some(named) => teller.tell(&Piece::InLine(How::Asked, Value::Word(named.name))),
+        Some(named) => teller.tell(&in_line!(Asked Word named.name)),
         None => Ok(()),
     }
 }
@@ -89,14 +89,8 @@ fn tell_handle<T: Teller>(teller: &mut T, i: usize, handle: u32) -> Pushed
     ensures { OnOk result
         (T.told teller.new ≡ T.told teller.old ++ flat_map T.marks (handle_told i handle)) }
 {
-    tell_all(
-        teller,
-        &[
-            Piece::InLine(How::Alone, Value::Word("handle")),
-            Piece::InLine(How::Behind, Value::Number(i as u64)),
-            Piece::Says(How::Behind, None, Value::Bytes(&handle.to_be_bytes())),
-        ],
-    )?;
+    tell_pieces!(teller; in_line!(Alone Word "handle"), in_line!(Behind Number i as u64),
+        Piece::Says(How::Behind, None, Value::Bytes(&handle.to_be_bytes())))?;
     tell_name_in_line(teller, handle)?;
     teller.tell(&LINE_END)
 }
@@ -142,13 +136,8 @@ pub(crate) fn tell_handles<T: Teller>(teller: &mut T, handles: &[u32]) -> Pushed
 {
     teller.tell(&Piece::Opens(Some("handles"), Shape::List))?;
     tell_each(teller, handles)?;
-    tell_all(
-        teller,
-        &[
-            Piece::Closes(Shape::List),
-            Piece::Opens(Some("handle_names"), Shape::List),
-        ],
-    )?;
+    tell_pieces!(teller; Piece::Closes(Shape::List),
+        Piece::Opens(Some("handle_names"), Shape::List))?;
     tell_names(teller, handles)?;
     teller.tell(&Piece::Closes(Shape::List))
 }

@@ -3,8 +3,8 @@
 ghost use Rattle.std.specs.Prelude.{◌≡◌, ◌++◌, IfOk, OnOk, flat_map, string_bytes};
 ghost use Rattle.tpm_show.specs.Passages.{packet_told, passage_told, time_text, time_told};
 
-use crate::piece::{How, LINE_END, Piece, Value};
-use crate::teller::{Teller, tell_all};
+use crate::piece::{LINE_END, in_line, says};
+use crate::teller::{Teller, tell_pieces};
 use std::alloc::{AllocError, Global};
 use tpm_output::text::Pushed;
 use tpm_pcap::Stamp;
@@ -47,7 +47,7 @@ fn tell_time<T: Teller>(teller: &mut T, time: Option<u128>) -> Pushed
         return Ok(());
     };
     let text = time_text(teller.alloc(), time)?;
-    teller.tell(&Piece::Says(How::Under, Some("time"), Value::Word(text.as_str())))
+    teller.tell(&says!(Under "time" Word text.as_str()))
 }
 
 #[tactic(auto, using(crate::proofs::Pieces::pieces), unfolding(crate::specs::Passages::packet_told))]
@@ -55,21 +55,10 @@ fn tell_packet<T: Teller>(teller: &mut T, stamp: Stamp, connection: u64) -> Push
     ensures { OnOk result (T.told teller.new
         ≡ T.told teller.old ++ flat_map T.marks (packet_told stamp connection)) }
 {
-    tell_all(
-        teller,
-        &[
-            Piece::InLine(How::Alone, Value::Word("packet")),
-            Piece::Says(How::Behind, Some("packet"), Value::Number(stamp.packet)),
-        ],
-    )?;
+    tell_pieces!(teller; in_line!(Alone Word "packet"),
+        says!(Behind "packet" Number stamp.packet))?;
     tell_time(teller, stamp.time)?;
-    tell_all(
-        teller,
-        &[
-            Piece::Says(How::Under, Some("connection"), Value::Number(connection)),
-            LINE_END,
-        ],
-    )
+    tell_pieces!(teller; says!(Under "connection" Number connection), LINE_END)
 }
 
 /// Tells the packet, where there is one.

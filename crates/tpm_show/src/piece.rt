@@ -56,3 +56,27 @@ pub(crate) enum Piece<'a> {
 
 /// The end of a line.
 pub(crate) const LINE_END: Piece<'static> = Piece::InLine(How::Alone, Value::Word("\n"));
+
+/// A thing under a name, as `says!(Under "size" Number 12)`.
+macro_rules! says {
+    ($how:ident $name:literal $kind:ident $value:expr) => {
+        $crate::piece::Piece::Says(
+            $crate::piece::How::$how,
+            Some($name),
+            $crate::piece::Value::$kind($value),
+        )
+    };
+}
+
+/// A thing that a line alone says, as `in_line!(Alone Word "packet")`.
+macro_rules! in_line {
+    ($how:ident $kind:ident $value:expr) => {
+        $crate::piece::Piece::InLine(
+            $crate::piece::How::$how,
+            $crate::piece::Value::$kind($value),
+        )
+    };
+}
+
+pub(crate) use in_line;
+pub(crate) use says;

@@ -13,8 +13,8 @@ use crate::frame_header::{
     FrameHeader, header_in, tell_code_in_line, tell_code_name, tell_command_head, tell_reply_head,
 };
 use crate::library::{CommandAreas, ResponseAreas, library_command, library_response};
-use crate::piece::{How, LINE_END, Piece, Value};
-use crate::teller::{Teller, tell_all};
+use crate::piece::{How, LINE_END, Piece, Value, in_line, says};
+use crate::teller::{Teller, tell_pieces};
 use std::alloc::AllocError;
 use tpm_output::status::Status;
 use tpm_output::text::Pushed;
@@ -76,15 +76,10 @@ pub(crate) fn tell_refusal<T: Teller>(teller: &mut T, beyond: bool, refusal: &Re
         ≡ T.told teller.old ++ flat_map T.marks (refusal_told beyond refusal.now)) }
 {
     let Refusal { code, at } = *refusal;
-    tell_all(
-        teller,
-        &[
-            Piece::InLine(How::Alone, Value::Word(verdict(beyond))),
-            Piece::Says(How::Behind, Some(verdict_name(beyond)), Value::Code(code)),
-        ],
-    )?;
+    tell_pieces!(teller; in_line!(Alone Word verdict(beyond)),
+        Piece::Says(How::Behind, Some(verdict_name(beyond)), Value::Code(code)))?;
     tell_code_name(teller, How::Nowhere, "fault", code)?;
-    teller.tell(&Piece::Says(How::Under, Some("at"), Value::Number(at as u64)))?;
+    teller.tell(&says!(Under "at" Number at as u64))?;
     tell_code_in_line(teller, code)?;
     teller.tell(&LINE_END)
 }

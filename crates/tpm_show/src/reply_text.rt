@@ -6,8 +6,8 @@ ghost use Rattle.tpm_show.specs.ReplyText.{code_alone_told, handles_of, reply_li
 
 use crate::frame_header::tell_code_in_line;
 use crate::handle_names::tell_handles;
-use crate::piece::{How, LINE_END, Piece, Value};
-use crate::teller::{Teller, tell_all};
+use crate::piece::{LINE_END, in_line};
+use crate::teller::{Teller, tell_pieces};
 use tpm_output::text::Pushed;
 use tpm_types::CommandCode;
 
@@ -17,13 +17,7 @@ pub(crate) fn tell_code_alone<T: Teller>(teller: &mut T, code: u32) -> Pushed
     ensures { OnOk result
         (T.told teller.new ≡ T.told teller.old ++ flat_map T.marks (code_alone_told code)) }
 {
-    tell_all(
-        teller,
-        &[
-            Piece::InLine(How::Alone, Value::Word("reply code")),
-            Piece::InLine(How::Behind, Value::Code(code)),
-        ],
-    )?;
+    tell_pieces!(teller; in_line!(Alone Word "reply code"), in_line!(Behind Code code))?;
     tell_code_in_line(teller, code)?;
     teller.tell(&LINE_END)
 }

@@ -10,9 +10,9 @@ ghost use Rattle.tpm_show.specs.Reports.{IsObjectLine, IsReport, fault_at_told, 
 
 use crate::lines::Lines;
 use crate::object::Object;
-use crate::piece::{How, LINE_END, Piece, Value};
+use crate::piece::{LINE_END, in_line, says};
 use crate::remark::Remark;
-use crate::teller::{Teller, tell_all};
+use crate::teller::{Teller, tell_pieces};
 use std::alloc::{AllocError, Global};
 use std::io::Write;
 use tpm_output::answer::write;
@@ -38,27 +38,14 @@ fn tell_fault<T: Teller>(teller: &mut T, fault: &str) -> Pushed
     ensures { OnOk result (T.told teller.new
         ≡ T.told teller.old ++ flat_map T.marks (fault_told fault.now)) }
 {
-    tell_all(
-        teller,
-        &[
-            Piece::Says(How::Alone, Some("fault"), Value::Word(fault)),
-            LINE_END,
-        ],
-    )
+    tell_pieces!(teller; says!(Alone "fault" Word fault), LINE_END)
 }
 
 fn tell_fault_at<T: Teller>(teller: &mut T, fault: &str, at: u64) -> Pushed
     ensures { OnOk result (T.told teller.new
         ≡ T.told teller.old ++ flat_map T.marks (fault_at_told fault.now at)) }
 {
-    tell_all(
-        teller,
-        &[
-            Piece::Says(How::Alone, Some("fault"), Value::Word(fault)),
-            Piece::Says(How::Under, Some("at"), Value::Number(at)),
-            LINE_END,
-        ],
-    )
+    tell_pieces!(teller; says!(Alone "fault" Word fault), says!(Under "at" Number at), LINE_END)
 }
 
 fn tell_remark<T: Teller>(teller: &mut T, remark: Remark) -> Pushed
@@ -66,33 +53,14 @@ fn tell_remark<T: Teller>(teller: &mut T, remark: Remark) -> Pushed
         (T.told teller.new ≡ T.told teller.old ++ flat_map T.marks (remark_told remark)) }
 {
     match remark {
-        Remark::Fault(number, fault) => tell_all(
-            teller,
-            &[
-                Piece::Says(How::Alone, Some("number"), Value::Number(number)),
-                Piece::Says(How::Behind, Some("fault"), Value::Word(fault)),
-                LINE_END,
-            ],
-        ),
-        Remark::Stop(number, fault, at) => tell_all(
-            teller,
-            &[
-                Piece::Says(How::Alone, Some("number"), Value::Number(number)),
-                Piece::Says(How::Behind, Some("fault"), Value::Word(fault)),
-                Piece::Says(How::Under, Some("at"), Value::Number(at as u64)),
-                LINE_END,
-            ],
-        ),
-        Remark::Packet(packet, reason) => tell_all(
-            teller,
-            &[
-                Piece::InLine(How::Alone, Value::Word("packet")),
-                Piece::Says(How::Behind, Some("packet"), Value::Number(packet)),
-                Piece::InLine(How::Alone, Value::Word(":")),
-                Piece::Says(How::Behind, Some("fault"), Value::Word(reason)),
-                LINE_END,
-            ],
-        ),
+        Remark::Fault(number, fault) => tell_pieces!(teller; says!(Alone "number" Number number),
+            says!(Behind "fault" Word fault), LINE_END),
+        Remark::Stop(number, fault, at) => tell_pieces!(teller;
+            says!(Alone "number" Number number), says!(Behind "fault" Word fault),
+            says!(Under "at" Number at as u64), LINE_END),
+        Remark::Packet(packet, reason) => tell_pieces!(teller; in_line!(Alone Word "packet"),
+            says!(Behind "packet" Number packet), in_line!(Alone Word ":"),
+            says!(Behind "fault" Word reason), LINE_END),
         Remark::NoCapture => tell_fault_at(teller, "no capture of libpcap", 0),
         Remark::NoPacket(port) => {
             let fault = no_packet(teller.alloc(), port)?;

@@ -6,13 +6,14 @@ ghost use Rattle.tpm_output.specs.Named.{named_as};
 ghost use Rattle.tpm_show.specs.Bits.{bits_set};
 ghost use Rattle.tpm_show.specs.HandleNames.{handle_named};
 ghost use Rattle.tpm_show.specs.Sessions.{ShownSession, attributes_set, attributes_told, handle_told, name_told};
-ghost use Rattle.tpm_show.specs.Sessions.{names_from, session_begins, session_ends, session_told, sessions_from, sessions_told};
+ghost use Rattle.tpm_show.specs.Sessions.{names_from, session_begins, session_ends, session_told, sessions_from};
+ghost use Rattle.tpm_show.specs.Sessions.{sessions_told};
 ghost use Rattle.tpm_show.specs.declared.piece.How.TheVariants.{Asked};
 
 use crate::bits::is_set;
 use crate::handle_names::handle_name;
-use crate::piece::{How, LINE_END, Piece, Shape, Value};
-use crate::teller::{Teller, tell_all};
+use crate::piece::{How, LINE_END, Piece, Shape, Value, in_line, says};
+use crate::teller::{Teller, tell_pieces};
 use std::marker::Model;
 use tpm_buffer::{Areas, ReplyAreas};
 use tpm_output::named::Named;
@@ -151,11 +152,7 @@ fn tell_name<T: Teller>(teller: &mut T, handle: u32) -> Pushed
         ≡ T.told teller.old ++ flat_map T.marks (name_told (handle_named handle))) }
 {
     match handle_name(handle) {
-        Some(named) => teller.tell(&Piece::Says(
-            How::Asked,
-            Some("session_name"),
-            Value::Word(named.name),
-        )),
+        Some(named) => teller.tell(&says!(Asked "session_name" Word named.name)),
         None => Ok(()),
     }
 }
@@ -168,7 +165,7 @@ fn tell_handle<T: Teller>(teller: &mut T, handle: Option<u32>) -> Pushed
         return Ok(());
     };
     let bytes = handle.to_be_bytes();
-    teller.tell(&Piece::Says(How::Behind, Some("session"), Value::Bytes(&bytes)))?;
+    teller.tell(&says!(Behind "session" Bytes &bytes))?;
     tell_name(teller, handle)
 }
 
@@ -204,7 +201,7 @@ fn tell_attributes<T: Teller>(teller: &mut T, attributes: u8) -> Pushed
         (T.told teller.new ≡ T.told teller.old ++ flat_map T.marks (attributes_told attributes)) }
 {
     let bytes = [attributes];
-    teller.tell(&Piece::Says(How::Under, Some("attributes"), Value::Bytes(&bytes)))?;
+    teller.tell(&says!(Under "attributes" Bytes &bytes))?;
     teller.tell(&Piece::Opens(Some("attribute_names"), Shape::List))?;
     tell_attribute_names(teller, attributes)?;
     teller.tell(&Piece::Closes(Shape::List))
@@ -215,14 +212,8 @@ fn begin_session<T: Teller>(teller: &mut T, number: usize) -> Pushed
     ensures { OnOk result
         (T.told teller.new ≡ T.told teller.old ++ flat_map T.marks (session_begins number)) }
 {
-    tell_all(
-        teller,
-        &[
-            Piece::Opens(None, Shape::Object),
-            Piece::InLine(How::Alone, Value::Word("session")),
-            Piece::InLine(How::Behind, Value::Number(number as u64)),
-        ],
-    )
+    tell_pieces!(teller; Piece::Opens(None, Shape::Object), in_line!(Alone Word "session"),
+        in_line!(Behind Number number as u64))
 }
 
 #[tactic(auto, unfolding(crate::specs::Sessions::session_ends))]
@@ -230,14 +221,7 @@ fn end_session<T: Teller>(teller: &mut T, hmac: &[u8]) -> Pushed
     ensures { OnOk result
         (T.told teller.new ≡ T.told teller.old ++ flat_map T.marks (session_ends hmac.now)) }
 {
-    tell_all(
-        teller,
-        &[
-            Piece::Says(How::Under, Some("hmac"), Value::Bytes(hmac)),
-            LINE_END,
-            Piece::Closes(Shape::Object),
-        ],
-    )
+    tell_pieces!(teller; says!(Under "hmac" Bytes hmac), LINE_END, Piece::Closes(Shape::Object))
 }
 
 // Tells a session by its number.
@@ -248,7 +232,7 @@ fn tell_session<T: Teller>(teller: &mut T, number: usize, session: &Session<'_>)
 {
     begin_session(teller, number)?;
     tell_handle(teller, session.handle)?;
-    teller.tell(&Piece::Says(How::Under, Some("nonce"), Value::Bytes(session.nonce)))?;
+    teller.tell(&says!(Under "nonce" Bytes session.nonce))?;
     tell_attributes(teller, session.attributes)?;
     end_session(teller, session.hmac)
 }

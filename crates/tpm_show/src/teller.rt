@@ -38,3 +38,12 @@ pub(crate) fn tell_all<T: Teller>(teller: &mut T, pieces: &[PieceInCode<'_>]) ->
     }
     Ok(())
 }
+
+/// Tells pieces one behind the other, as `tell_pieces!(teller; says!(Alone "fault" Word fault), LINE_END)`.
+macro_rules! tell_pieces {
+    ($teller:expr; $($piece:expr),*) => {
+        $crate::teller::tell_all($teller, &[$($piece),*])
+    };
+}
+
+pub(crate) use tell_pieces;
