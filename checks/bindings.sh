@@ -233,7 +233,7 @@ make_layout() {
         BEGIN { print "#include \"vinjakwe.h\"\n#include <stdio.h>\nint main(void) {" }
         /^struct tpm_[a-z_]* \{/ &&
             ($2 ~ /refusal|part|session|areas|attest|signature|allowed|policy|counter|secure_boot|variable/ ||
-                $2 ~ /log_(place|digest|event)/) {
+                $2 ~ /log_(place|digest|event)|image|node/) {
             name = $2
             size(name)
             next
@@ -246,7 +246,8 @@ make_layout() {
         }
         /^#define TPM_(CC|RC)_/ &&
             $2 !~ /^TPM_RC_([HPS1-7])$/ { number($2, $2) }
-        /^#define TPM_(DONE|REFUSED|NO_ROOM|NO_COMMAND|EVENT|VARIABLE|TEXT|TEXT_UTF16|NOT_ALLOWED|CALLER_OPENED) / ||
+        /^#define TPM_(DONE|REFUSED|NO_ROOM|NO_COMMAND|EVENT|VARIABLE|TEXT|TEXT_UTF16|CALLER_OPENED) / ||
+            /^#define TPM_(NOT_ALLOWED|IMAGE|PATH_NODE) / ||
             /^#define TPM_POLICY_NO_DIGEST / ||
             /^#define TPM_(FRAMER_[A-Z]+|ATTEST_[A-Z_]+|MEASURED_[A-Z]+) / ||
             /^#define TPM_ALG_(SHA|RSA|ECDSA)/ ||
@@ -275,7 +276,7 @@ for it, name in (
     (v._LogPlace, "log_place"), (v._LogDigest, "log_digest"), (v._LogEvent, "log_event"), (v._Attest, "attest"),
     (v._Signature, "signature"),
     (v._AttestFault, "attest_fault"), (v._AllowedDigest, "allowed"), (v._Policy, "policy"), (v._Counter, "counter"),
-    (v._SecureBoot, "secure_boot"), (v._Variable, "variable"),
+    (v._SecureBoot, "secure_boot"), (v._Variable, "variable"), (v._Image, "image"), (v._PathNode, "path_node"),
 ):
     print(f"tpm_{name} {ctypes.sizeof(it)}")
     for field, _ in it._fields_:
@@ -289,8 +290,8 @@ for name in ("BUFFER_BYTES", "OWNER_BYTES", "NONCE_BYTES", "REGISTERS_BYTES", "D
              "EVENT_TYPE_BYTES", "CODE_NAME_BYTES", "LOG_NAME_BYTES", "SELECTION_BYTES"):
     print(f"TPM_{name} {getattr(v, name)}")
 for name in ("DONE", "REFUSED", "NO_ROOM", "NO_COMMAND", "FRAMER_MORE", "FRAMER_READY", "FRAMER_BROKEN", "EVENT",
-             "VARIABLE", "TEXT", "TEXT_UTF16", "NOT_ALLOWED", "CALLER_OPENED", "ATTEST_REFUSED", "ATTEST_NO_BANK",
-             "ATTEST_REQUIREMENT", "POLICY_NO_DIGEST"):
+             "VARIABLE", "TEXT", "TEXT_UTF16", "NOT_ALLOWED", "IMAGE", "PATH_NODE", "CALLER_OPENED", "ATTEST_REFUSED",
+             "ATTEST_NO_BANK", "ATTEST_REQUIREMENT", "POLICY_NO_DIGEST"):
     print(f"TPM_{name} {getattr(v, '_' + name)}")
 for kind in v.Kind:
     if kind.value >= 0:

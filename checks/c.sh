@@ -219,6 +219,16 @@ same_texts() {
     done
 }
 
+# same_images: the images of each log that has a list of lines, but for their device paths; and one with a file.
+same_images() {
+    for list in checks/logs/*.events; do
+        "$room/events" images <"${list%.events}.log" | sed 's/ file=.*//' >"$room/out"
+        sed -n -E 's/^[0-9]+ ([0-9]+ [^ ]+) .* (image address=[^ ]+ length=[^ ]+ link=[^ ]+) .*/\1 \2/p' "$list" |
+            cmp - "$room/out" || { echo "$list: $(cat "$room/out")" && return 1; }
+    done
+    "$room/events" images <checks/logs/images.log | grep -q -F ' file=\\EFI\\BOOT\\BOOTX64.EFI'
+}
+
 # same_measured: which part of the data the digest of each bank is of, of each log that has a list of objects.
 same_measured() {
     for list in checks/logs/*.json; do
@@ -676,6 +686,7 @@ else
     holds "the records of the logs through C" same_events
     holds "the variables of the logs through C" same_variables
     holds "the names of types and the texts of the logs through C" same_texts
+    holds "the images of the logs through C" same_images
     holds "which part of the data was measured through C" same_measured
     holds "whether Secure Boot was on through C" same_boots
     holds "a device through C tells what it does not know" device_faults

@@ -96,6 +96,7 @@ def crate_numbers():
         | only(constants("tpm_c", "record_text", "TPM_"), "TPM_TEXT", "TPM_TEXT_UTF16")
         | only(constants("tpm_c", "allowed", "TPM_"), "TPM_ALLOWED", "TPM_NOT_ALLOWED")
         | only(constants("tpm_c", "variable", "TPM_"), "TPM_VARIABLE")
+        | only(constants("tpm_c", "image", "TPM_"), "TPM_IMAGE", "TPM_PATH_NODE")
         | arms("tpm_c", "measured", "MeasuredPart", "TPM_MEASURED_")
         | constants("tpm_c", "signature", "TPM_ALG_", "u16")
         | arms("tpm_c", "secure_boot", "SecureBootState", "TPM_SECURE_BOOT_")

@@ -5,6 +5,8 @@
  *     events variables   REGISTER TYPE GUID NAME VALUE, where each lies, of the records whose data are a variable
  *     events texts       REGISTER NAME [text TEXT], the type by its name where it has one, and the data where they are
  *                        text
+ *     events images      REGISTER NAME image address=A length=N link=A, of the records whose data are an image, and
+ *                        file=TEXT, where its device path has the path name of a file
  *     events measured    REGISTER TYPE HASH:PART .., which part of the data the digest of each bank is of
  *
  * A type and the numbers of the hashes are hexadecimal; first come the event's data, or where they are, and then each
@@ -113,6 +115,30 @@ static void print_names(const struct tpm_log_event *event) {
     printf("\n");
 }
 
+/* The image that the record's data tell, if they do. */
+static void print_image(const struct tpm_log_event *event) {
+    uint8_t name[TPM_EVENT_TYPE_BYTES];
+    size_t len = tpm_event_type_name(event->type, name, sizeof name);
+    struct tpm_image it;
+    struct tpm_path_node node;
+    if (tpm_log_image(event->type, bytes + event->data.at, event->data.len, &it) != TPM_IMAGE)
+        return;
+    printf("%lu %.*s image address=0x%llx length=%llu link=0x%llx", (unsigned long)event->pcr, (int)len,
+           (const char *)name, (unsigned long long)it.address, (unsigned long long)it.size,
+           (unsigned long long)it.link_address);
+    while (tpm_log_path_node(bytes + event->data.at + it.path.at, it.path.len, &node) == TPM_PATH_NODE) {
+        const uint8_t *value = bytes + event->data.at + it.path.at + node.value.at;
+        int is_file = node.type == 4 && node.subtype == 4;
+        if (is_file)
+            printf(" file=");
+        for (size_t i = 0; is_file && i + 1 < node.value.len && (value[i] | value[i + 1]) != 0; i += 2)
+            print_unit(value[i] | value[i + 1] << 8);
+        it.path.at += node.value.at + node.value.len;
+        it.path.len -= node.value.at + node.value.len;
+    }
+    printf("\n");
+}
+
 /* Which part of the data each digest is of. Exactly a digest of all the data is their hash, and else `!` is printed. */
 static void print_measured(const struct tpm_log_event *event) {
     static const char *const parts[] = {"data", "variable", "text", "cut", "other"};
@@ -139,13 +165,13 @@ int main(int argc, char **argv) {
     struct tpm_log_event event;
     uint32_t at, said;
     int variables = strcmp(words, "variables") == 0, texts = strcmp(words, "texts") == 0;
-    int measured = strcmp(words, "measured") == 0;
+    int measured = strcmp(words, "measured") == 0, images = strcmp(words, "images") == 0;
     if (ferror(stdin)) {
         fprintf(stderr, "events: standard input can't be read\n");
         return 3;
     }
-    if (argc > 2 || (argc == 2 && !variables && !texts && !measured && strcmp(words, "bytes") != 0)) {
-        fprintf(stderr, "usage: events [bytes | variables | texts | measured]\n");
+    if (argc > 2 || (argc == 2 && !variables && !texts && !images && !measured && strcmp(words, "bytes") != 0)) {
+        fprintf(stderr, "usage: events [bytes | variables | texts | images | measured]\n");
         return 2;
     }
     while ((said = tpm_log_event(bytes, len, &place, &event, &at)) == TPM_EVENT) {
@@ -153,6 +179,8 @@ int main(int argc, char **argv) {
             print_variable(&event);
         else if (texts)
             print_names(&event);
+        else if (images)
+            print_image(&event);
         else if (measured)
             print_measured(&event);
         else

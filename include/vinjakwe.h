@@ -347,6 +347,39 @@ struct tpm_variable {
  * EV_EFI_SPDM_DEVICE_AUTHORITY; `view` stays as it was. */
 uint32_t tpm_log_variable(uint32_t kind, const uint8_t *bytes, size_t len, struct tpm_variable *view);
 
+/* An image that was loaded, UEFI_IMAGE_LOAD_EVENT: the address of its first byte in memory, how many bytes it has there, the address
+ * that it was linked for, and its device path in the data of the record. The record's digest is of the image, and not of these. */
+struct tpm_image {
+    uint64_t address;
+    uint64_t size;
+    uint64_t link_address;
+    struct tpm_part path;
+};
+
+/* An image was told. */
+#define TPM_IMAGE ((uint32_t)43)
+
+/* Tells the image that these bytes, the data of a record of this type, are. TPM_IMAGE: it is in `view`. TPM_LOG_DONE: they are none, or
+ * the type is another than EV_EFI_BOOT_SERVICES_APPLICATION, EV_EFI_BOOT_SERVICES_DRIVER and EV_EFI_RUNTIME_SERVICES_DRIVER; `view` stays
+ * as it was. */
+uint32_t tpm_log_image(uint32_t kind, const uint8_t *bytes, size_t len, struct tpm_image *view);
+
+/* A node of a device path (UEFI Specification, "Generic Device Path Structures"): its type, its subtype, and its data in the bytes that
+ * were handed in. Of type 4 and subtype 4 they are the path name of a file in UTF-16, with the less significant byte of each unit
+ * first and a zero behind it. */
+struct tpm_path_node {
+    uint8_t type;
+    uint8_t subtype;
+    struct tpm_part value;
+};
+
+/* A node was told. */
+#define TPM_PATH_NODE ((uint32_t)44)
+
+/* Tells the first node of the device path that these bytes are. TPM_PATH_NODE: it is in `view`, and the next node is behind its data.
+ * TPM_LOG_DONE: the node has a fault, or there are no bytes; `view` stays as it was. */
+uint32_t tpm_log_path_node(const uint8_t *bytes, size_t len, struct tpm_path_node *view);
+
 /* Which part of a record's data a digest is of: all of them; the value of the variable that they are; in EV_IPL, the text behind a
  * prefix that GRUB writes and does not measure, as `kernel_cmdline: `; all but the last byte; or none of these, so that something
  * else was measured than what the log says. */

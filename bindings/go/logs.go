@@ -13,6 +13,7 @@ import (
 	"encoding/binary"
 	"fmt"
 	"io"
+	"strings"
 	"unicode/utf16"
 )
 
@@ -265,6 +266,48 @@ func (e Event) Variable() (found Variable, is bool) {
 	}
 	copy(found.GUID[:], part(e.Data, it.guid))
 	found.Name, found.Value = wide(part(e.Data, it.name)), part(e.Data, it.value)
+	return found, true
+}
+
+// A PathNode of a device path (UEFI Specification, "Generic Device Path Structures"), whose data are lent from the
+// event's data.
+type PathNode struct {
+	Type, Subtype uint8
+	Data          []byte
+}
+
+// An Image that was loaded: its address in memory, its bytes there, the address that it was linked for, and the nodes
+// of its device path, up to the first fault. The record's digest is of the image, and vouches for none of these.
+type Image struct {
+	Address, Size, LinkAddress uint64
+	Path                       []PathNode
+}
+
+// File is the path name of the image's file, in which a unit that is no UTF-16 is U+FFFD, or "" where its path has
+// none.
+func (i Image) File() (name string) {
+	for _, it := range i.Path {
+		if it.Type == 4 && it.Subtype == 4 && len(it.Data)%2 == 0 {
+			name += strings.TrimSuffix(wide(it.Data), "\x00")
+		}
+	}
+	return name
+}
+
+// Image is the one that the event's data tell (PC Client Platform Firmware Profile, "UEFI_IMAGE_LOAD_EVENT"), and false
+// where they tell none, or the type is another than EV_EFI_BOOT_SERVICES_APPLICATION, EV_EFI_BOOT_SERVICES_DRIVER and
+// EV_EFI_RUNTIME_SERVICES_DRIVER.
+func (e Event) Image() (found Image, is bool) {
+	var it C.struct_tpm_image
+	var node C.struct_tpm_path_node
+	if C.tpm_log_image(C.uint32_t(e.Type), place(e.Data), size(e.Data), &it) != C.TPM_IMAGE {
+		return found, false
+	}
+	found = Image{Address: uint64(it.address), Size: uint64(it.size), LinkAddress: uint64(it.link_address)}
+	for rest := part(e.Data, it.path); C.tpm_log_path_node(place(rest), size(rest), &node) == C.TPM_PATH_NODE; {
+		found.Path = append(found.Path, PathNode{uint8(node._type), uint8(node.subtype), part(rest, node.value)})
+		rest = rest[node.value.at+node.value.len:]
+	}
 	return found, true
 }
 

@@ -509,6 +509,40 @@ func TestNamesOfCodes(t *testing.T) {
 	}
 }
 
+func TestImagesOfEachLogWithAList(t *testing.T) {
+	lists, _ := filepath.Glob(checks + "logs/*.json")
+	files := map[string]bool{}
+	for _, list := range lists {
+		name := "logs/" + strings.TrimSuffix(filepath.Base(list), ".json")
+		events := NewEvents(read(t, name+".log"))
+		for _, line := range strings.Split(strings.TrimSpace(string(read(t, name+".json"))), "\n") {
+			var told struct {
+				Measured map[string]string
+				Image    *struct {
+					Address, Link, Path string
+					Length              uint64
+				}
+			}
+			if err := json.Unmarshal([]byte(line), &told); err != nil {
+				t.Fatal(err)
+			}
+			if told.Measured == nil || !events.Next() {
+				continue
+			}
+			it, is := events.Event().Image()
+			if is != (told.Image != nil) || is && (fmt.Sprintf("%#x", it.Address) != told.Image.Address ||
+				it.Size != told.Image.Length || fmt.Sprintf("%#x", it.LinkAddress) != told.Image.Link ||
+				!strings.Contains(told.Image.Path, it.File())) {
+				t.Error(line, it)
+			}
+			files[it.File()] = true
+		}
+	}
+	if !files[`\EFI\BOOT\BOOTX64.EFI`] {
+		t.Error(files)
+	}
+}
+
 // The lists beside the logs have of each record what each digest is of.
 func TestWhatWasMeasuredOfEachLogWithAList(t *testing.T) {
 	lists, _ := filepath.Glob(checks + "logs/*.json")

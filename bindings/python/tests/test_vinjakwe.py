@@ -119,6 +119,21 @@ def objects():
         yield path.with_suffix(".log"), [json.loads(line) for line in path.read_text().splitlines()]
 
 
+class Images(unittest.TestCase):
+    def test_each_log_with_a_list_of_objects(self):
+        files = set()
+        for path, told in objects():
+            for event, it in zip(v.events(path), (it for it in told if "measured" in it)):
+                found = v.image(event)
+                self.assertEqual(found is not None, "image" in it, path)
+                if found:
+                    numbers = f"{found.address:#x}", found.size, f"{found.link_address:#x}"
+                    self.assertEqual(numbers, tuple(it["image"][name] for name in ("address", "length", "link")))
+                    self.assertIn(found.file, it["image"].get("path", ""))
+                    files.add(found.file)
+        self.assertIn("\\EFI\\BOOT\\BOOTX64.EFI", files)
+
+
 class Measured(unittest.TestCase):
     def test_each_log_with_a_list_of_objects(self):
         for path, told in objects():

@@ -29,12 +29,12 @@ if TYPE_CHECKING:
 
 __all__ = [
     "ANY_NONCE", "ANY_SELECTION", "Attest", "BrokenStream", "BUFFER_BYTES", "Caller", "CODES", "Command", "COMMANDS",
-    "Counter", "Device", "Event", "Framer", "HASHES", "Kind", "LibraryError", "LogFault", "Mismatch", "NONCE_BYTES",
-    "OWNER_BYTES", "Policy", "Refusal", "Registers", "Response", "SecureBoot", "SecureBootFault", "SecureBootState",
-    "Session", "Signature", "SizedAttest", "Variable", "Verdict", "build_command", "changes_nv", "check",
-    "check_quote", "code_name", "decode_attest", "decode_command", "decode_response", "decode_signature",
-    "event_type_name", "events", "measured", "replay", "secure_boot", "selection", "text", "variable", "verify",
-    "vouched", "vouched_text", "vouched_variable",
+    "Counter", "Device", "Event", "Framer", "HASHES", "Image", "Kind", "LibraryError", "LogFault", "Mismatch",
+    "NONCE_BYTES", "OWNER_BYTES", "PathNode", "Policy", "Refusal", "Registers", "Response", "SecureBoot",
+    "SecureBootFault", "SecureBootState", "Session", "Signature", "SizedAttest", "Variable", "Verdict",
+    "build_command", "changes_nv", "check", "check_quote", "code_name", "decode_attest", "decode_command",
+    "decode_response", "decode_signature", "event_type_name", "events", "image", "measured", "replay", "secure_boot",
+    "selection", "text", "variable", "verify", "vouched", "vouched_text", "vouched_variable",
 ]
 __version__ = "0.1.0"
 
@@ -62,7 +62,8 @@ CODES = {
 }
 _DONE, _REFUSED, _NO_ROOM, _NO_COMMAND = range(4)
 _FRAMER_MORE, _FRAMER_READY, _FRAMER_BROKEN = range(3)
-_EVENT, _VARIABLE, _TEXT, _TEXT_UTF16, _NOT_ALLOWED, _CALLER_OPENED = 32, 33, 34, 35, 42, 0
+_EVENT, _VARIABLE, _TEXT, _TEXT_UTF16, _CALLER_OPENED = 32, 33, 34, 35, 0
+_NOT_ALLOWED, _IMAGE, _PATH_NODE = 42, 43, 44
 _LOG_DONE, _ATTEST_DIFFERS, _ATTEST_REFUSED, _ATTEST_NO_BANK, _ATTEST_REQUIREMENT = 0, 16, 17, 18, 22
 _POLICY_NO_DIGEST = 5
 _SECURE_BOOT_NO_ROOM, _SECURE_BOOT_NOT_MEASURED = 51, 64
@@ -194,6 +195,14 @@ class _Variable(Structure):
     _fields_ = [("guid", _Part), ("name", _Part), ("value", _Part)]
 
 
+class _Image(Structure):
+    _fields_ = [("address", c_uint64), ("size", c_uint64), ("link_address", c_uint64), ("path", _Part)]
+
+
+class _PathNode(Structure):
+    _fields_ = [("type", c_uint8), ("subtype", c_uint8), ("value", _Part)]
+
+
 class _SecureBoot(Structure):
     _fields_ = [("dma_protection_disabled", c_uint32), ("pk", c_uint32), ("kek", c_uint32), ("db", c_uint32),
                 ("dbx", c_uint32)]
@@ -271,6 +280,8 @@ def _load() -> tuple[ctypes.PyDLL, ctypes.CDLL]:
         ("log_event", number, [p, size, POINTER(_LogPlace), POINTER(_LogEvent), count]),
         ("event_type_name", size, [number, p, size]), ("log_text", number, [number, p, size, POINTER(_Part)]),
         ("log_variable", number, [number, p, size, POINTER(_Variable)]),
+        ("log_image", number, [number, p, size, POINTER(_Image)]),
+        ("log_path_node", number, [p, size, POINTER(_PathNode)]),
         ("log_secure_boot", number, [p, size, c_uint16, POINTER(_SecureBoot), p, size, POINTER(size), count]),
         ("log_check_quote", number, [p, size, p, size, c_uint16, count]),
         ("log_check_attest", number, [p, size, p, size, c_uint16, p, size, p, size, POINTER(_AttestFault)]),
@@ -583,6 +594,48 @@ def variable(event: Event) -> Variable | None:
     with memoryview(event.data) as data:
         name = _part(data, view.name).decode("utf-16-le", "surrogatepass")
         return Variable(uuid.UUID(bytes_le=_part(data, view.guid)), name, _part(data, view.value))
+
+
+class PathNode(NamedTuple):
+    """A node of a device path (UEFI Specification, "Generic Device Path Structures")."""
+
+    type: int
+    subtype: int
+    data: bytes
+
+
+class Image(NamedTuple):
+    """An image that was loaded: its address in memory, its bytes there, the address that it was linked for, and the
+    nodes of its device path, up to the first fault. The record's digest is of the image, and vouches for none of
+    these."""
+
+    address: int
+    size: int
+    link_address: int
+    path: tuple[PathNode, ...]
+
+    @property
+    def file(self) -> str:
+        """The path name of the image's file, or "" where its path has none. Units that are no UTF-16 stay as they
+        are."""
+        names = (it.data.decode("utf-16-le", "surrogatepass") for it in self.path
+                 if (it.type, it.subtype) == (4, 4) and len(it.data) % 2 == 0)
+        return "".join(name.removesuffix("\0") for name in names)
+
+
+def image(event: Event) -> Image | None:
+    """The image that the data of a record tell (PC Client Platform Firmware Profile, "UEFI_IMAGE_LOAD_EVENT"), or None
+    where they tell none, or the type is another than EV_EFI_BOOT_SERVICES_APPLICATION, EV_EFI_BOOT_SERVICES_DRIVER and
+    EV_EFI_RUNTIME_SERVICES_DRIVER."""
+    view, node, path = _Image(), _PathNode(), []
+    if _lend(_library.tpm_log_image, event.type, (event.data,), byref(view)) != _IMAGE:
+        return None
+    with memoryview(event.data) as data:
+        rest = _part(data, view.path)
+    while _lend(_library.tpm_log_path_node, (rest,), byref(node)) == _PATH_NODE:
+        path.append(PathNode(node.type, node.subtype, _part(memoryview(rest), node.value)))
+        rest = rest[node.value.at + node.value.len:]
+    return Image(view.address, view.size, view.link_address, tuple(path))
 
 
 class SecureBootState(enum.Enum):

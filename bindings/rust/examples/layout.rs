@@ -22,6 +22,8 @@ fn main() {
     tell!(tpm_log_digest, hash, hashed, digest);
     tell!(tpm_log_event, at, pcr, r#type, digest_count, digests, data);
     tell!(tpm_variable, guid, name, value);
+    tell!(tpm_image, address, size, link_address, path);
+    tell!(tpm_path_node, r#type, subtype, value);
     tell!(tpm_secure_boot, dma_protection_disabled, pk, kek, db, dbx);
     tell!(tpm_attest, signer, nonce, clock, reset_count, restart_count, safe, firmware_version, selections, digest);
     tell!(tpm_signature, scheme, hash, sig, r, s);

@@ -21,8 +21,8 @@ pub use allowed::{allowed_digests, AllowedDigest};
 pub use boots::{secure_boot, SecureBoot, SecureBootFault, SecureBootState, SECURE_BOOT_FAULTS};
 pub use buffers::{build_command, Command, List, Response, Session};
 pub use logs::{
-    check, check_quote, events, replay, Bank, Digest, Event, Events, Expected, MeasuredPart, Nonce, Registers, Replay,
-    Required, Text, TypeName, Variable, Verdict,
+    check, check_quote, events, replay, Bank, Digest, Event, Events, Expected, Image, MeasuredPart, Nonce, PathNode,
+    Registers, Replay, Required, Text, TypeName, Variable, Verdict,
 };
 pub use names::{CodeName, Name};
 pub use quotes::{Attest, Policy, Selection, Signature};

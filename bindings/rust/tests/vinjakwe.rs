@@ -277,6 +277,23 @@ fn names_of_codes() {
     assert_eq!(CodeName::of(0x1084), None);
 }
 
+#[test]
+fn images_of_a_log() {
+    let log = read("quotes/17-ovmf-secureboot.log");
+    let images: Vec<_> = events(&log).filter_map(|it| it.unwrap().image()).collect();
+    assert!(!images.is_empty());
+    for it in images {
+        let size: usize = it.nodes().map(|it| 4 + it.data.len()).sum();
+        assert_eq!(size, it.path.len());
+        assert!(it.size > 0);
+    }
+    let mut files = Vec::new();
+    for it in events(&read("logs/images.log")).map(Result::unwrap) {
+        files.extend(it.image().map(|it| it.file_chars().collect::<String>()));
+    }
+    assert!(files.iter().any(|it| it == "\\EFI\\BOOT\\BOOTX64.EFI"), "{files:?}");
+}
+
 // A line of these lists has of each record what each digest is of, as `"measured":{"sha256":"data"}`.
 #[test]
 fn what_was_measured_of_each_log_with_a_list() {

@@ -5,6 +5,7 @@ pub mod Calls
 pub mod CommandViews
 pub mod Devices
 pub mod Framers
+pub mod Images
 pub mod KeptDevices
 pub mod LogEvents
 pub mod LogPieces

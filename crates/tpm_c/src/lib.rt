@@ -12,6 +12,7 @@ mod device;
 mod framer;
 mod handed;
 mod hash;
+mod image;
 mod kept;
 mod log;
 mod log_event;
@@ -41,6 +42,7 @@ pub use command::{TpmCommandAreas, TpmCommandSession, tpm_command_cut, tpm_comma
 pub use device::{tpm_device_execute, tpm_device_init, tpm_device_power_cycle};
 pub use framer::{tpm_framer_frame, tpm_framer_init, tpm_framer_next, tpm_framer_push};
 pub use hash::tpm_hash;
+pub use image::{TpmImage, TpmPathNode, tpm_log_image, tpm_log_path_node};
 pub use kept::{
     TpmCounter, tpm_device_changes_nv, tpm_device_counter, tpm_device_counters,
     tpm_device_greatest, tpm_device_keep, tpm_device_restore, tpm_device_session_hash,
