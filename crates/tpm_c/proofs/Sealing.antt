@@ -1,13 +1,14 @@
 -- What is sealed of a command in bytes.
-use Rattle.std.proofs.Common.{◌≡◌, ℕ, List, [], ◌∷◌, length, take, true, Option, Some, None, sym, ap}
+use Rattle.std.proofs.Common.{◌≡◌, ℕ, List, [], ◌∷◌, length, take, true, Option, Some, None, refl, sym, ap}
 use Rattle.std.proofs.Common.{◌∙◌, arith}
+use Rattle.std.specs.Prelude.{IfSome}
 use Rattle.tpm_commands.specs.declared.command.CommandBody.{CommandBody}
 use Rattle.tpm_commands.specs.Handles.{handle_kinds}
 use Rattle.tpm_buffer.specs.Commands.{code_for, handles_of}
 use Rattle.tpm_model.specs.InStep.{CallerSession}
 use Rattle.tpm_model.specs.Callers.{Waiting}
-use Rattle.tpm_caller.specs.Sent.{sent}
-use Rattle.tpm_caller.specs.Plain.{PlainParts, parts_of, parts_in, IsSentFrom}
+use Rattle.tpm_caller.specs.Sent.{sent, IsSpelled}
+use Rattle.tpm_caller.specs.Plain.{PlainParts, parts_of, parts_in, PartsFit, IsSentFrom}
 use Rattle.tpm_c.specs.declared.caller.Held.TheVariants.{Free, Sealed}
 use Rattle.tpm_c.specs.Written.{IsIn}
 use Rattle.tpm_c.specs.Callers.{names_of, do_fit, SealedWith, seal_of, seal_by, sealed_bytes, after_seal}
@@ -28,10 +29,12 @@ fit_is p b first second nonce is fit =
 pub is_sealed : (c : CallerSession) (o : Option CommandBody) (p : PlainParts) (means : SealedWith) (out new : List ℕ) (w : Waiting) (count : ℕ)
     → Some p ≡ parts_in o → do_fit (take (length (handle_kinds p.code)) (means.first ∷ means.second ∷ [])) means.nonce ≡ true
     → ((b : CommandBody) → p ≡ parts_of b → IsSentFrom (sent (seal_of c b means)) out new (w, count))
-    → IsIn (sealed_bytes (seal_by (Free c) o means)) out new count × (Sealed w ≡ after_seal (Free c) (seal_by (Free c) o means))
-is_sealed c None p means out new w count some fits sends = absurd (let z : ⊥ = cc in z)
-is_sealed c (Some b) p means out new w count some fits sends =
+    → ((b : CommandBody) → p ≡ parts_of b → PartsFit b → IsSpelled (seal_of c b means)) → ((b : CommandBody) → o ≡ Some b → PartsFit b)
+    → (IsIn (sealed_bytes (seal_by (Free c) o means)) out new count × IfSome (seal_by (Free c) o means) IsSpelled)
+    × (Sealed w ≡ after_seal (Free c) (seal_by (Free c) o means))
+is_sealed c None p means out new w count some fits sends spells fit = absurd (let z : ⊥ = cc in z)
+is_sealed c (Some b) p means out new w count some fits sends spells fit =
     let is : p ≡ parts_of b = cc in
     let s = sends b is in
     rw (fit_is p b means.first means.second means.nonce is fits)
-    (record { bytes = s.1.0; count_is = s.1.1 }, ap (λ (x : Waiting). Sealed x) s.0)
+    ((record { bytes = s.1.0; count_is = s.1.1 }, spells b is (fit b refl)), ap (λ (x : Waiting). Sealed x) s.0)

@@ -1,6 +1,6 @@
 //! A caller's session in the caller's memory (Part 1, "Session-Based Authorizations").
 
-ghost use Rattle.std.specs.Prelude.{◌≡◌, ◌≤◌, true, length, take, [], ◌∷◌, Ok, IfOk, IfErr};
+ghost use Rattle.std.specs.Prelude.{◌≡◌, ◌≤◌, true, length, take, [], ◌∷◌, Ok, IfOk, IfErr, IfSome};
 ghost use Rattle.std.specs.Borrow.{sem};
 ghost use denote.RawPtr.{room_at};
 ghost use Rattle.tpm_wire.specs.Reading.{read_all};
@@ -9,8 +9,8 @@ ghost use Rattle.tpm_commands.specs.declared.command.CommandBody.{CommandBody as
 ghost use Rattle.tpm_commands.specs.Handles.{handle_kinds};
 ghost use Rattle.tpm_buffer.specs.Commands.{command as command_layout};
 ghost use Rattle.tpm_model.specs.Callers.{Opened, Waiting, opened};
-ghost use Rattle.tpm_caller.specs.Sent.{caller_with, sent};
-ghost use Rattle.tpm_caller.specs.Plain.{parts_of, IsSentFrom};
+ghost use Rattle.tpm_caller.specs.Sent.{caller_with, sent, IsSpelled};
+ghost use Rattle.tpm_caller.specs.Plain.{parts_of, PartsFit, IsSentFrom};
 ghost use Rattle.tpm_c.specs.declared.caller.Held.TheVariants.{Sealed, Spent};
 ghost use Rattle.tpm_c.specs.declared.caller.Held.{Held as HeldOf};
 ghost use Rattle.tpm_c.specs.contracts.caller.Held.{the_row};
@@ -201,7 +201,7 @@ fn sealed(
     requires fit { do_fit
         (take (length (handle_kinds plain.now.code)) (first.now ∷ second.now ∷ [])) nonce.now
         ≡ true }
-    ensures { (body : CommandBodyOf) → plain.now ≡ parts_of body →
+    ensures sealed { (body : CommandBodyOf) → plain.now ≡ parts_of body →
         IsSentFrom (sent (seal_of caller body (record {
           first = first.now;
           second = second.now;
@@ -209,6 +209,14 @@ fn sealed(
           nonce = nonce.now;
           keep = keep;
         }))) out.old out.new result }
+    ensures spelled { (body : CommandBodyOf) → plain.now ≡ parts_of body → PartsFit body →
+        IsSpelled (seal_of caller body (record {
+          first = first.now;
+          second = second.now;
+          auth = auth.now;
+          nonce = nonce.now;
+          keep = keep;
+        })) }
 {
     let names = names(plain.code().handles(), first, second);
     caller.seal_plain(plain, names.as_slice(), auth, nonce_of(nonce), keep, out)
@@ -231,7 +239,7 @@ fn seal(
       nonce = nonce.now;
       keep = is_set keep;
     }) (length out.old) in
-        IsIn (sealed_bytes seal) out.old out.new result
+        (IsIn (sealed_bytes seal) out.old out.new result × IfSome seal IsSpelled)
         × (held.new ≡ after_seal held.old seal) }
 {
     if out.len() < BUFFER_BYTES {
@@ -285,7 +293,7 @@ pub unsafe extern "C" fn tpm_caller_seal(
       keep = is_set keep;
     }) (length out.old) in
         sem 𝓛 (held_at (after_seal held seal) place)
-        ∗ ⌜ IsIn (sealed_bytes seal) out.old out.new result ⌝ }
+        ∗ ⌜ IsIn (sealed_bytes seal) out.old out.new result × IfSome seal IsSpelled ⌝ }
 {
     seal(
         &mut *(place as *mut Held),

@@ -24,4 +24,5 @@ returns-in-Free c =
       keep = is_set c.args.keep;
     } in
     rw (room, free) (is_sealed c.in-Free.caller (body_in (read_all command_layout c.args.command.now)) c.in-Some.plain means
-    c.args.out.now c.sealed-waiting.new.out c.sealed-waiting.result.0 c.sealed-waiting.result.1 (sym there) fits c.sealed-waiting.ensures)
+    c.args.out.now c.sealed-waiting.new.out c.sealed-waiting.result.0 c.sealed-waiting.result.1 (sym there) fits
+    c.sealed-waiting.ensures.sealed c.sealed-waiting.ensures.spelled c.in-Some.ensures.fit)

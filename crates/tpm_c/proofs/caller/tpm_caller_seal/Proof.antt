@@ -6,6 +6,8 @@ use Rattle.tpm_c.proofs.Steps.{uint_Tells, u8, mut_vals, shr_slice_vals, shr_sli
 use Rattle.tpm_c.proofs.Steps.{mut_slice_Tells, triple_of, whole, sub, agg}
 use Rattle.tpm_c.proofs.Lending.{Spelled, there, points, becomes, lent}
 use Rattle.tpm_c.proofs.caller.seal.Met.{met}
+use Rattle.std.specs.Prelude.{IfSome}
+use Rattle.tpm_caller.specs.Sent.{IsSpelled}
 use Rattle.tpm_c.specs.contracts.caller.Held.{the_row}
 use Rattle.tpm_c.specs.Callers.{held_at, SealedWith, is_set, sealing, sealed_bytes, after_seal}
 use Rattle.tpm_c.specs.Written.{IsIn}
@@ -67,7 +69,8 @@ tpm_caller_seal_spec 𝓤 𝓛 𝓜 𝓡 wired =
     sets ! (addr ! (from ! (fld ! refl (hop ! (look_in_at ! 8 (sub ! 0 refl (whole !))) (stop !))))) refl (tt, tt) $
     sets ! (agg ! (and_then ! (get ! refl) (and_then ! (get_in ! (fld ! refl (stop !)) (sub ! 1 refl (whole !))) (no_more !))))
     refl (tt, (tt, (record { fits = are.1.1.1.1.1.1.0.0.1.0 }, tt))) $
-    lent 𝓛 𝓜 𝓡 f.ended c sp ! the_row held b o w (λ r new us. IsIn (sealed_bytes seal) out us.1.1.1.1.1.1.0 r × (new ≡ after_seal held seal))
+    lent 𝓛 𝓜 𝓡 f.ended c sp ! the_row held b o w
+    (λ r new us. (IsIn (sealed_bytes seal) out us.1.1.1.1.1.1.0 r × IfSome seal IsSpelled) × (new ≡ after_seal held seal))
     (triple_of 𝓛 of.signature (of.spec 𝓛 𝓜.mem 𝓡.returns)) (met 𝓤 𝓛 𝓜 𝓡 (code.calls-tpm_c::caller::seal 𝓡.env wired))
     (λ κ x vals. (((κ, w.0), (full_share, w.1), tt, (x, a), (mut_vals x, vals)), tt)) (λ κ δ. id⊢ 𝓤 _) (λ κ δ v. id⊢ 𝓤 _)
     (λ r new us e. becomes 𝓛 the_row b o e.1 e.0)
