@@ -2,6 +2,7 @@ pub mod Allowing
 pub mod Decoding
 pub mod Held
 pub mod HeldReplies
+pub mod Imaging
 pub mod Judging
 pub mod KeptDevices
 pub mod Lending
