@@ -11,9 +11,8 @@ use Rattle.tpm_log.specs.Replays.{Replays}
 use Rattle.tpm_output.specs.declared.status.Status.TheVariants.{Done}
 use Rattle.tpm_output.specs.declared.status.Status.{Status}
 use Rattle.tpm_events.specs.ListEvents.{events_from}
-use Rattle.tpm_check.specs.CheckAttest.{ChecksAttest, Says}
+use Rattle.tpm_check.specs.CheckAttest.{ChecksAttest, OnDone, Says, Selects}
 use Rattle.tpm_check.specs.Compare.{Verdict, beside, printed}
-use Rattle.tpm_check.specs.QuotedBoot.{OnDone, Selects}
 use Rattle.tpm_check.specs.SecureBootLines.{ended}
 use Rattle.tpm_check.specs.VouchedEvents.{IsFollowed, ListsVouched, Quoted}
 

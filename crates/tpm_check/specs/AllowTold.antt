@@ -19,7 +19,7 @@ use Rattle.tpm_output.specs.declared.status.Status.{Status}
 use Rattle.tpm_output.specs.Text.{line}
 use Rattle.tpm_check.specs.CheckAttest.{lacks_line}
 use Rattle.tpm_check.specs.Compare.{Verdict, no_register_text}
-use Rattle.tpm_check.specs.Extensions.{Extension, is_of, unknown_in}
+use Rattle.tpm_check.specs.Extensions.{Extension, extensions_in, is_of}
 
 -- ---- a digest
 
@@ -92,7 +92,7 @@ status_of_unknown [] = Done
 status_of_unknown (x ∷ xs) = Refused
 
 abbrev pub on_records : (json : Bool) → List AllowedDigest → (size : ℕ) → List Shown → Verdict
-on_records json list size records = let found = unknown_in list size records in
+on_records json list size records = let found = extensions_in (Some list) size records in
     record { status = status_of_unknown found; text = banks_told json list found }
 
 -- a register that the list names and that isn't selected

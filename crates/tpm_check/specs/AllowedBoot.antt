@@ -1,6 +1,6 @@
 -- What `check --attest --allow` prints of a log (this profile).
 use Rattle.std.specs.Prelude.{◌⊎◌, ℕ, Bool, true, false, nat_lt, List, [], length, map, Ok, Err}
-use Rattle.std.specs.Prelude.{IsPermutation}
+use Rattle.std.specs.Prelude.{IsPermutation, Option, Some, None}
 use Rattle.tpm_types.specs.declared.tpms.Selection.{Selection}
 use Rattle.tpm_pcr.specs.Registers.{Registers, value_in}
 use Rattle.tpm_log.specs.Changes.{AreAfter}
@@ -14,9 +14,8 @@ use Rattle.tpm_output.specs.declared.status.Status.{Status}
 use Rattle.tpm_output.specs.InputLines.{most_bytes}
 use Rattle.tpm_check.specs.AllowLines.{AllowRead, allowed_in}
 use Rattle.tpm_check.specs.AllowTold.{first_lacking, on_list, on_records, too_long_text}
-use Rattle.tpm_check.specs.CheckAttest.{ChecksAttest, Says, behind}
+use Rattle.tpm_check.specs.CheckAttest.{ChecksAttest, OnDone, Says, Selects, behind}
 use Rattle.tpm_check.specs.Compare.{Verdict, beside, not_a_register_text, printed}
-use Rattle.tpm_check.specs.QuotedBoot.{OnDone, Selects}
 use Rattle.tpm_check.specs.SecureBootLines.{TellsFault, ended, on_log, quoted_banks}
 
 -- ---- a list
@@ -56,31 +55,35 @@ SaysOfList q bytes v =
 
 -- ---- a log
 
--- whether Secure Boot was on, where that is asked for
+-- whether Secure Boot was on, where that is asked for, in the banks whose register 7 is selected
 abbrev pub boot_if : (asked : Bool) → Verdict → Verdict
 boot_if false v = record { status = Done; text = [] }
 boot_if true v = v
 
-abbrev pub on_boot : CheckOptions → List Selection → ParsedLog → Verdict
-on_boot o selections l = boot_if o.secure_boot (on_log o l.size (map shown l.records) (quoted_banks selections))
+abbrev pub on_boot : (asked : Bool) → CheckOptions → List Selection → ParsedLog → Verdict
+on_boot asked o selections l = boot_if asked (on_log o l.size (map shown l.records) (quoted_banks selections))
 
--- the bytes of a quote as it was signed, and those of a list
-pub record AllowFiles : Type 0 where
+-- Beside a list that comes first where it is asked for, and then what is said beside the list.
+abbrev pub SaysOfSelected : CheckOptions → (allow : Option (List ℕ)) → List Selection → ParsedLog → Verdict → Type 0
+SaysOfSelected o None selections l v = Says (on_boot true o selections l) v.status v.text
+SaysOfSelected o (Some allow) selections l v =
+    (last : Verdict)
+    × SaysOfList (record { json = o.json; selections = selections; log = l }) allow last
+    × Says (behind (on_boot o.secure_boot o selections l) last) v.status v.text
+
+-- the bytes of a quote as it was signed, and those of a list, where there is one
+pub record QuoteFiles : Type 0 where
   pub attest : List ℕ
-  pub allow : List ℕ
+  pub allow : Option (List ℕ)
 
--- Behind a quote that is the one asked for come whether Secure Boot was on, where that is asked for, and what is said
--- beside the list.
-abbrev pub SaysBehind : CheckOptions → AllowFiles → ParsedLog → Verdict → Type 0
+-- Behind a quote that is the one asked for that is said of what it selects.
+abbrev pub SaysBehind : CheckOptions → QuoteFiles → ParsedLog → Verdict → Type 0
 SaysBehind o g l v =
-    (selections : List Selection) × (last : Verdict)
-    × Selects g.attest selections
-    × SaysOfList (record { json = o.json; selections = selections; log = l }) g.allow last
-    × Says (behind (on_boot o selections l) last) v.status v.text
+    (selections : List Selection) × Selects g.attest selections × SaysOfSelected o g.allow selections l v
 
 -- What the quote says beside the registers that the log gives comes first, and behind any other quote nothing.
-abbrev pub SaysOfAllowed : CheckOptions → AllowFiles → Registers → ParsedLog → Verdict → Type 0
-SaysOfAllowed o g found l v =
+abbrev pub SaysBeside : CheckOptions → QuoteFiles → Registers → ParsedLog → Verdict → Type 0
+SaysBeside o g found l v =
     (first : Verdict)
     × ChecksAttest (beside o.json (value_in found.banks)) o g.attest first
     × OnDone first.status
@@ -88,10 +91,19 @@ SaysOfAllowed o g found l v =
     (Says (ended o.json first) v.status v.text)
 
 -- That is printed of a log, and else its fault. Behind that stands the status, where it is told as objects.
-abbrev pub ChecksAllowed : CheckOptions → AllowFiles → List ℕ → Status → List ℕ → Type 0
-ChecksAllowed o g bytes status text =
+abbrev pub ChecksBeside : CheckOptions → QuoteFiles → List ℕ → Status → List ℕ → Type 0
+ChecksBeside o g bytes status text =
     ((l : ParsedLog) × (found : Registers)
     × Parses bytes (Ok l)
     × Replays AreAfter bytes (Ok found)
-    × SaysOfAllowed o g found l (printed status text))
+    × SaysBeside o g found l (printed status text))
     ⊎ TellsFault o.json bytes status text
+
+-- the bytes of a quote as it was signed, and those of a list
+pub record AllowFiles : Type 0 where
+  pub attest : List ℕ
+  pub allow : List ℕ
+
+abbrev pub ChecksAllowed : CheckOptions → AllowFiles → List ℕ → Status → List ℕ → Type 0
+ChecksAllowed o g bytes status text =
+    ChecksBeside o (record { attest = g.attest; allow = Some g.allow }) bytes status text

@@ -131,3 +131,16 @@ ChecksAttest b o bytes v =
     ((a : Attest) × Spells attest a bytes × Says (on_attest b o a) v.status v.text)
     ⊎ ((refusal : Refusal) × Fault attest bytes refusal × (v.status ≡ Refused)
     × (v.text ≡ refusal_text b.json refusal (hint bytes)))
+
+-- ---- behind it
+
+-- what a quote selects, and nothing where the bytes spell none
+abbrev pub Selects : List ℕ → List Selection → Type 0
+Selects bytes selections =
+    ((a : Attest) × Spells attest a bytes × (selections ≡ a.quote.selections))
+    ⊎ ((refusal : Refusal) × Fault attest bytes refusal × (selections ≡ []))
+
+-- The one holds where all was done, and else the other.
+abbrev pub OnDone : Status → Type 0 → Type 0 → Type 0
+OnDone Done P Q = P
+OnDone Refused P Q = Q

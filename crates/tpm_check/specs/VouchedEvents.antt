@@ -13,9 +13,8 @@ use Rattle.tpm_output.specs.declared.status.Status.TheVariants.{Done}
 use Rattle.tpm_output.specs.declared.status.Status.{Status}
 use Rattle.tpm_events.specs.declared.listed_events.Listing.{Listing}
 use Rattle.tpm_events.specs.ListEvents.{events_from}
-use Rattle.tpm_check.specs.CheckAttest.{ChecksAttest, Says}
+use Rattle.tpm_check.specs.CheckAttest.{ChecksAttest, OnDone, Says, Selects}
 use Rattle.tpm_check.specs.Compare.{Verdict, beside, printed}
-use Rattle.tpm_check.specs.QuotedBoot.{OnDone, Selects}
 use Rattle.tpm_check.specs.SecureBootLines.{TellsFault, ended}
 
 -- what is listed of a log, the bytes of a quote as it was signed, and what is expected of that

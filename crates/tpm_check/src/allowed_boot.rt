@@ -1,6 +1,6 @@
 //! The subcommand `check` of a list of allowed digests, beside a quote as it was signed.
 
-ghost use Rattle.std.specs.Prelude.{◌≡◌, ℕ, List, Ok, IfOk, IsErrOf, string_bytes};
+ghost use Rattle.std.specs.Prelude.{◌≡◌, ℕ, List, Ok, Some, IfOk, IsErrOf, option_map, string_bytes};
 ghost use Rattle.std.specs.Io.KnownBytes.{Appends};
 ghost use Rattle.tpm_wire.specs.Sources.{IsWhereItFailed};
 ghost use Rattle.tpm_output.specs.declared.fault.ToolFault.TheVariants.{InputTooLong, Read};
@@ -10,8 +10,8 @@ ghost use Rattle.tpm_output.specs.InputLines.{CountsRead};
 ghost use Rattle.tpm_output.specs.Reads.{ReadsNoMore, ReadsUpTo};
 ghost use Rattle.tpm_events.specs.ListEvents.{most_read};
 ghost use Rattle.tpm_check.specs.AllowTold.{too_long_text};
-ghost use Rattle.tpm_check.specs.AllowedBoot.{ChecksAllowed, SaysBehind, SaysOfAllowed, SaysOfList, SaysOfRead};
-ghost use Rattle.tpm_check.specs.AllowedBoot.{on_boot};
+ghost use Rattle.tpm_check.specs.AllowedBoot.{ChecksAllowed, ChecksBeside, SaysBehind, SaysBeside, SaysOfList};
+ghost use Rattle.tpm_check.specs.AllowedBoot.{SaysOfRead, SaysOfSelected, on_boot};
 ghost use Rattle.tpm_check.specs.inner.CheckAttest.{Adds};
 ghost use Rattle.tpm_check.specs.Compare.{Verdict, not_a_register_text, printed};
 
@@ -24,17 +24,17 @@ use crate::compared::{MOST_BYTES, no_register_text};
 use crate::judged::answer_to_attest;
 use crate::quoted_boot::{quoted_banks, selected};
 use crate::register_text::push_not_a_register;
+use crate::replayed::{ReplayedLog, replayed};
 use crate::told_secure_boot::push_log;
 use std::alloc::{AllocError, Global};
 use std::io::Write;
 use tpm_events::listed_events::MOST_READ;
-use tpm_log::{Log, replay};
+use tpm_log::Log;
 use tpm_options::CheckOptions;
 use tpm_output::answer::Answer;
 use tpm_output::fault::ToolFault;
 use tpm_output::reads::read_up_to;
 use tpm_output::status::Status;
-use tpm_pcr::Registers;
 use tpm_types::Selections;
 use tpm_vouched::{AllowList, AllowedDigest};
 use tpm_wire::Source;
@@ -107,17 +107,37 @@ fn push_boot(
     alloc: Global,
     text: &mut String,
     options: &CheckOptions<'_>,
+    asked: bool,
     quoted: &Selections,
     log: &Log<'_>,
 ) -> Result<Status, AllocError>
-    ensures { IfOk result (λ status. Adds (on_boot options.now quoted.now log.now) status
+    ensures { IfOk result (λ status. Adds (on_boot asked options.now quoted.now log.now) status
         (string_bytes text.old) (string_bytes text.new)) }
 {
-    if !options.secure_boot {
+    if !asked {
         return Ok(Status::Done);
     }
     let banks = quoted_banks(quoted.as_slice());
     push_log(alloc, text, options, log, banks.as_slice())
+}
+
+// Adds that, and what is said beside a list.
+fn push_listed(
+    alloc: Global,
+    text: &mut String,
+    options: &CheckOptions<'_>,
+    allow: &[u8],
+    quoted: &Selections,
+    log: &Log<'_>,
+) -> Result<Status, AllocError>
+    ensures { IfOk result (λ status. (second : Verdict)
+        × SaysOfSelected options.now (Some allow.now) quoted.now log.now second
+        × Adds second status (string_bytes text.old) (string_bytes text.new)) }
+{
+    let boot = push_boot(alloc, text, options, options.secure_boot, quoted, log)?;
+    let last = answer_to_list(alloc, options.json, allow, quoted, log)?;
+    text.push_str(last.text.as_str())?;
+    Ok(boot.both(last.status))
 }
 
 // Adds what is said behind a quote that is the one asked for.
@@ -126,68 +146,68 @@ fn push_behind(
     text: &mut String,
     options: &CheckOptions<'_>,
     attest: &[u8],
-    allow: &[u8],
+    allow: Option<&[u8]>,
     log: &Log<'_>,
 ) -> Result<Status, AllocError>
     ensures { IfOk result (λ status. (second : Verdict)
-        × SaysBehind options.now (record { attest = attest.now; allow = allow.now }) log.now second
+        × SaysBehind options.now
+        (record { attest = attest.now; allow = option_map (λ a. a.now) allow.entry })
+        log.now second
         × Adds second status (string_bytes text.old) (string_bytes text.new)) }
 {
     let quoted = selected(attest);
-    let boot = push_boot(alloc, text, options, &quoted, log)?;
-    let last = answer_to_list(alloc, options.json, allow, &quoted, log)?;
-    text.push_str(last.text.as_str())?;
-    Ok(boot.both(last.status))
+    match allow {
+        Some(allow) => push_listed(alloc, text, options, allow, &quoted, log),
+        None => push_boot(alloc, text, options, true, &quoted, log),
+    }
 }
 
-// What is printed of a log, which gives these registers, beside a quote and a list.
-fn answer_to_allowed(
+// What is printed of a log beside a quote.
+fn answer_beside(
     alloc: Global,
     options: &CheckOptions<'_>,
     attest: &[u8],
-    allow: &[u8],
-    registers: &Registers,
-    log: &Log<'_>,
+    allow: Option<&[u8]>,
+    found: &ReplayedLog<'_>,
 ) -> Result<Answer, AllocError>
-    ensures { IfOk result (λ a. SaysOfAllowed options.now
-        (record { attest = attest.now; allow = allow.now }) registers.now log.now
-        (printed a.status (string_bytes a.text))) }
+    ensures { IfOk result (λ a. SaysBeside options.now
+        (record { attest = attest.now; allow = option_map (λ a. a.now) allow.entry })
+        found.now.registers found.now.log (printed a.status (string_bytes a.text))) }
 {
     let json = options.json;
-    let first = answer_to_attest(alloc, &Beside { registers, json }, options, attest)?;
+    let beside = Beside {
+        registers: &found.registers,
+        json,
+    };
+    let first = answer_to_attest(alloc, &beside, options, attest)?;
     let mut text = first.text;
     if first.status == Status::Refused {
         text.push_str(ok_text(json, Status::Refused))?;
         return Ok(Answer::refused(text));
     }
-    let status = push_behind(alloc, &mut text, options, attest, allow, log)?;
+    let status = push_behind(alloc, &mut text, options, attest, allow, &found.log)?;
     text.push_str(ok_text(json, status))?;
     Ok(Answer { status, text })
 }
 
-// Prints what is said of a log beside a quote and a list, or its fault.
-fn print_allowed<W: Write>(
+/// Prints what is said of a log beside a quote, and a list of allowed digests where there is one, or its fault.
+pub(crate) fn print_beside<W: Write>(
     alloc: Global,
     options: &CheckOptions<'_>,
     attest: &[u8],
-    allow: &[u8],
+    allow: Option<&[u8]>,
     bytes: &[u8],
     out: &mut W,
 ) -> Result<Status, ToolFault>
     ensures ok { IfOk result (λ status. (text : List ℕ)
-        × ChecksAllowed options.now (record { attest = attest.now; allow = allow.now })
+        × ChecksBeside options.now
+        (record { attest = attest.now; allow = option_map (λ a. a.now) allow.entry })
         bytes.now status text
         × Appends (W.contents out.old) (W.contents out.new) text) }
     ensures err { FailsByMemoryOrWrite result }
 {
-    let registers = match replay(bytes) {
-        Ok(registers) => registers,
-        Err(fault) => return tell_fault(alloc, options.json, &fault, out),
-    };
-    match Log::parse(bytes) {
-        Ok(log) => {
-            answer_to_allowed(alloc, options, attest, allow, &registers, &log)?.print(out)
-        }
+    match replayed(bytes) {
+        Ok(found) => answer_beside(alloc, options, attest, allow, &found)?.print(out),
         Err(fault) => tell_fault(alloc, options.json, &fault, out),
     }
 }
@@ -242,5 +262,5 @@ pub fn check_allowed<L: Source, W: Write>(
     ensures short { IsErrOf result InputTooLong → ⊥ }
 {
     let bytes = read_up_to(alloc, log, MOST_READ)?;
-    print_allowed(alloc, options, attest, allow, bytes.as_slice(), out)
+    print_beside(alloc, options, attest, Some(allow), bytes.as_slice(), out)
 }

@@ -20,11 +20,12 @@ use crate::check_json::ok_text;
 use crate::checked::tell_fault;
 use crate::judged::answer_to_attest;
 use crate::quoted_boot::selected;
+use crate::replayed::replayed;
 use std::alloc::{AllocError, Global};
 use std::io::Write;
 use tpm_events::listed_events::MOST_READ;
 use tpm_events::{Listing, print_events};
-use tpm_log::{Log, replay};
+use tpm_log::Log;
 use tpm_options::CheckOptions;
 use tpm_output::answer::Answer;
 use tpm_output::fault::ToolFault;
@@ -99,19 +100,16 @@ fn print_vouched<W: Write>(
     ensures err { FailsByMemoryOrWrite result }
 {
     let json = listing.json;
-    let registers = match replay(bytes) {
-        Ok(registers) => registers,
+    let found = match replayed(bytes) {
+        Ok(found) => found,
         Err(fault) => return tell_fault(alloc, json, &fault, out),
     };
-    let found = Beside {
-        registers: &registers,
+    let beside = Beside {
+        registers: &found.registers,
         json,
     };
-    let said = answer_to_end(alloc, &found, options, attest)?;
-    match Log::parse(bytes) {
-        Ok(log) => print_behind(alloc, listing, &said, attest, &log, out),
-        Err(fault) => tell_fault(alloc, json, &fault, out),
-    }
+    let said = answer_to_end(alloc, &beside, options, attest)?;
+    print_behind(alloc, listing, &said, attest, &found.log, out)
 }
 
 /// Prints what the bytes of a quote as it was signed say beside the registers that a log gives, as `check_log` does.

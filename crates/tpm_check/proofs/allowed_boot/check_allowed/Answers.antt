@@ -3,10 +3,10 @@ use Rattle.tpm_check.proofs.allowed_boot.check_allowed.Goals as goal
 
 pub returns-clause-ok : goal.returns-clause-ok
 returns-clause-ok g c =
-    IfOk-weaker c.print_allowed.result _ _ (λ status printed. (
+    IfOk-weaker c.print_beside.result _ _ (λ status printed. (
       c.as_slice.result.now,
       printed.0,
       rw c.as_slice.ensures.value c.in_ok-bytes.ensures.ok,
       printed.1,
       printed.2,
-    )) c.print_allowed.ensures.ok
+    )) c.print_beside.ensures.ok

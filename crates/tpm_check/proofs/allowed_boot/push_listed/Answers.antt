@@ -3,15 +3,15 @@ use Rattle.tpm_check.specs.AllowedBoot.{on_boot}
 use Rattle.tpm_check.specs.CheckAttest.{behind}
 use Rattle.tpm_check.specs.Compare.{printed}
 use Rattle.tpm_check.proofs.AllowedBoots.{adds_behind}
-use Rattle.tpm_check.proofs.allowed_boot.push_behind.Goals as goal
+use Rattle.tpm_check.proofs.allowed_boot.push_listed.Goals as goal
 
 pub returns : goal.returns
 returns c =
-    let quoted = c.selected-quoted.result in
-    let boot = on_boot c.args.options.now quoted c.args.log.now in
+    let options = c.args.options.now in
+    let boot = on_boot options.secure_boot options c.args.quoted.now c.args.log.now in
     let last = printed c.in_ok-last.last.status (string_bytes c.in_ok-last.last.text) in (
       behind boot last,
-      (quoted, last, c.selected-quoted.ensures, c.in_ok-last.ensures, (refl, refl)),
+      (last, c.in_ok-last.ensures, (refl, refl)),
       adds_behind boot last _ _ _ _ _ c.in_ok-boot.ensures
           (c.in_ok-push_str.ensures.bytes ∙ ap (λ (t : List ℕ). string_bytes c.push_boot.new.text ++ t) c.as_str.ensures.value) c.both.ensures,
     )
