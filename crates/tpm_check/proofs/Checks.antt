@@ -1,5 +1,5 @@
 -- What is printed of a log, a list of registers and a quote.
-use Rattle.std.proofs.Common.{◌≡◌, ℕ, List, Option, Some, None, Result, Ok, Err, refl, sym, subst, inl, inr}
+use Rattle.std.proofs.Common.{◌≡◌, ℕ, List, Option, Some, None, Result, Ok, Err, refl, sym, subst, inr}
 use Rattle.std.specs.Prelude.{IsErrOf, MatchOption}
 use Rattle.tpm_wire.specs.Sources.{one_more}
 use Rattle.tpm_log.specs.declared.fault.LogFault.{LogFault}

@@ -1,5 +1,5 @@
 -- What `check` prints of a log, with all that it is compared with (this profile).
-use Rattle.std.specs.Prelude.{◌≡◌, ℕ, Bool, true, false, ◌||◌, List, [], ◌++◌, Option, Some, None, is_some, Result, Ok}
+use Rattle.std.specs.Prelude.{◌≡◌, ℕ, Bool, true, false, ◌||◌, List, [], ◌++◌, Option, is_some, Result, Ok}
 use Rattle.std.specs.Prelude.{Err, MatchOption}
 use Rattle.tpm_pcr.specs.Registers.{Registers, value_in}
 use Rattle.tpm_log.specs.declared.fault.LogFault.{LogFault}

@@ -1,5 +1,5 @@
 -- What `events --attest` prints of a log (this profile).
-use Rattle.std.specs.Prelude.{◌≡◌, ◌⊎◌, ℕ, List, ◌++◌, length, map, Ok, Some}
+use Rattle.std.specs.Prelude.{◌⊎◌, ℕ, List, ◌++◌, length, map, Ok, Some}
 use Rattle.tpm_wire.specs.Path.{Spells}
 use Rattle.tpm_types.specs.declared.tpms.Selection.{Selection}
 use Rattle.tpm_pcr.specs.Registers.{Registers, value_in}
