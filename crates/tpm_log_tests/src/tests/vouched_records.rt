@@ -1,5 +1,6 @@
 //! What a quote vouches for in a record, and lists of allowed digests. The digests are those of Python's hashlib.
 
+use crate::tests::log_parsed::LOGS;
 use crate::tests::rows::{
     Asked, are_banks, code, codes, counts, ends, hash, holds, made, names, number, rows,
 };
@@ -7,19 +8,21 @@ use arrayvec::ArrayVec;
 use std::process::Abort;
 use std::test::*;
 use tpm_event_data::{Event, MeasuredPart};
+use tpm_log::Log;
 use tpm_testing::word;
 use tpm_types::{Alg, HashedDigest, PcrIndex, Selection, Selections};
 use tpm_vouched::laws::{allowed_by_the_log, allowed_by_the_quote, vouched_of_the_log};
 use tpm_vouched::{AllowList, AllowedDigest, VouchedPart, vouched};
 
 // COMMAND is "grub_cmd: set root" and a zero. SHA1 is of what is behind the prefix, SHA256 of all of it, and SHA384 of
-// "else".
+// "else". SEPARATOR is SHA-256's of four zeros.
 const BYTES: &str = "
     COMMAND 677275625f636d643a2073657420726f6f7400
     SHA1 371a26dd159e7cb0f928b1422d08217f73229581
     SHA256 373def3256a71795fccf7a3e228b3b8ddf8a89752c4bf8ac7caee56444370385
     SHA384 325fafd93828f9401f7e58092a925559712c06671f8c8bdbee044dbb8af6014cc8f46e0a1b2cede32178d33d90ba1a3a
     ZEROS 0000000000000000000000000000000000000000000000000000000000000000
+    SEPARATOR df3f619804a92fdb4057192dc43dd748ea778adc52bc498ce80524c014b81119
 ";
 
 // These registers of a bank, in three bytes.
@@ -213,6 +216,36 @@ fn a_list_allows_digests_of_its_registers_alone(rt: HostRuntime) {
     );
     allowed_by_the_log();
     allowed_by_the_quote();
+}
+
+// A list of one digest of SHA-256, for this register, beside the log that extends register 7 by SEPARATOR alone.
+struct OfLog;
+
+impl Asked for OfLog {
+    fn ask<R: Abort>(rt: &R, mut given: &str, mut told: &str) {
+        let bytes = made(rt, LOGS, "WORKED");
+        let register = number(rt, word(&mut given));
+        let mut digests = [allowed(rt, Alg::Sha256, register, given)];
+        let list = AllowList::new(&mut digests);
+        match Log::parse(bytes.as_slice()) {
+            Ok(log) if list.allows_log(&log) => names(rt, &mut told, "allowed"),
+            Ok(_) => names(rt, &mut told, "unknown"),
+            Err(_) => panic!(rt; "a fault"),
+        }
+        ends(rt, told);
+    }
+}
+
+#[test]
+fn a_list_allows_a_log_whose_digests_are_on_it(rt: HostRuntime) {
+    rows::<OfLog>(
+        &rt,
+        "
+        7 SEPARATOR is allowed
+        7 ZEROS is unknown
+        8 ZEROS is allowed
+        ",
+    );
 }
 
 #[test]
