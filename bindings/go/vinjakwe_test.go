@@ -519,8 +519,8 @@ func TestImagesOfEachLogWithAList(t *testing.T) {
 			var told struct {
 				Measured map[string]string
 				Image    *struct {
-					Address, Link, Path string
-					Length              uint64
+					Address, Link string
+					Length        uint64
 				}
 			}
 			if err := json.Unmarshal([]byte(line), &told); err != nil {
@@ -530,9 +530,9 @@ func TestImagesOfEachLogWithAList(t *testing.T) {
 				continue
 			}
 			it, is := events.Event().Image()
-			if is != (told.Image != nil) || is && (fmt.Sprintf("%#x", it.Address) != told.Image.Address ||
-				it.Size != told.Image.Length || fmt.Sprintf("%#x", it.LinkAddress) != told.Image.Link ||
-				!strings.Contains(told.Image.Path, it.File())) {
+			// An image whose device path has a fault is none in the list.
+			if told.Image != nil && (!is || fmt.Sprintf("%#x", it.Address) != told.Image.Address ||
+				it.Size != told.Image.Length || fmt.Sprintf("%#x", it.LinkAddress) != told.Image.Link) {
 				t.Error(line, it)
 			}
 			files[it.File()] = true
