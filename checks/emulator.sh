@@ -868,10 +868,13 @@ at_its_address() {
     begin emulator || return 1
     "$room/client" listens "$port" 127.0.0.2 && end && return 1
     end || return 1
-    port=$((port + 8))
-    "$room/emulator" --swtpm "$port" --mssim $((port + 2)) --listen 127.0.0.2 2>"$room/err" &
-    server=$!
-    comes [ -s "$room/err" ]
+    for try in 1 2 3 4 5 6 7 8; do
+        port=$((port + 8))
+        "$room/emulator" --swtpm "$port" --mssim $((port + 2)) --listen 127.0.0.2 2>"$room/err" &
+        server=$!
+        comes [ -s "$room/err" ]
+        if kill -0 "$server" 2>/dev/null; then break; fi
+    done
     for at in 0 1 2 3; do
         "$room/client" listens $((port + at)) 127.0.0.2 && ! "$room/client" listens $((port + at)) ||
             { echo "$at" && end && return 1; }
