@@ -6,6 +6,7 @@
 #     log FILE, pieces FILE                               `tpmtool check FILE`, whole and from a reader
 #     events FILE                                         as examples/events.c, which checks/c.sh compares
 #     texts FILE                                          as examples/events.c, which checks/c.sh compares
+#     contents FILE                                       as checks/contents.py
 #     boot FILE BANK                                      as examples/secure_boot.c, which checks/c.sh compares
 #     quote FILE HEX HASH                                 as examples/log.c
 #     attest LOG HEX NONCE REQUIRE HASH [LIST]            a quote as it was signed; `any` nonce, or `any` registers;
@@ -152,6 +153,10 @@ ROWS
             "$room/c_events" texts <"$log" >>"$table.wanted"
             ;;
         esac
+        if [ -f "${log%.log}.registers" ] && command -v python3 >/dev/null 2>&1; then
+            echo "contents $log" >>"$table"
+            python3 checks/contents.py --replaced "$log" >>"$table.wanted" || return 1
+        fi
         for bank in sha1 sha256 sha384; do
             echo "boot $log $bank" >>"$table"
             "$room/c_boot" "$bank" <"$log" >>"$table.wanted"
@@ -233,7 +238,8 @@ make_layout() {
         BEGIN { print "#include \"vinjakwe.h\"\n#include <stdio.h>\nint main(void) {" }
         /^struct tpm_[a-z_]* \{/ &&
             ($2 ~ /refusal|part|session|areas|attest|signature|allowed|policy|counter|secure_boot|variable/ ||
-                $2 ~ /log_(place|digest|event)|image|node/) {
+                $2 ~ /log_(place|digest|event)|image|node|firmware|table|tag|measurement|evidence|content/ ||
+                $2 ~ /owned|option/) {
             name = $2
             size(name)
             next
@@ -248,6 +254,10 @@ make_layout() {
             $2 !~ /^TPM_RC_([HPS1-7])$/ { number($2, $2) }
         /^#define TPM_(DONE|REFUSED|NO_ROOM|NO_COMMAND|EVENT|VARIABLE|TEXT|TEXT_UTF16|CALLER_OPENED) / ||
             /^#define TPM_(NOT_ALLOWED|IMAGE|PATH_NODE) / ||
+            /^#define TPM_(VERSION|VERSION_GUID|SEPARATOR|LOCALITY|FIRMWARE|TABLES|TAG|PARTITIONS) / ||
+            /^#define TPM_(MEASUREMENT|EVIDENCE) / ||
+            /^#define TPM_(PARTITION|TABLE|TABLE_BYTES|SIGNATURE_LIST|OWNED|LOAD_OPTION|DEVICE_PATH) / ||
+            /^#define TPM_HOLDS_(LOAD_OPTION|BOOT_ORDER|SIGNATURES|SIGNATURE|BYTE) / ||
             /^#define TPM_POLICY_NO_DIGEST / ||
             /^#define TPM_(FRAMER_[A-Z]+|ATTEST_[A-Z_]+|MEASURED_[A-Z]+) / ||
             /^#define TPM_ALG_(SHA|RSA|ECDSA)/ ||
@@ -277,6 +287,9 @@ for it, name in (
     (v._Signature, "signature"),
     (v._AttestFault, "attest_fault"), (v._AllowedDigest, "allowed"), (v._Policy, "policy"), (v._Counter, "counter"),
     (v._SecureBoot, "secure_boot"), (v._Variable, "variable"), (v._Image, "image"), (v._PathNode, "path_node"),
+    (v._Firmware, "firmware"), (v._Tables, "tables"), (v._Tag, "tag"), (v._Partitions, "partitions"),
+    (v._Measurement, "measurement"), (v._Evidence, "evidence"), (v._Content, "content"), (v._Partition, "partition"),
+    (v._Table, "table"), (v._SignatureList, "signature_list"), (v._Owned, "owned"), (v._LoadOption, "load_option"),
 ):
     print(f"tpm_{name} {ctypes.sizeof(it)}")
     for field, _ in it._fields_:
@@ -291,7 +304,10 @@ for name in ("BUFFER_BYTES", "OWNER_BYTES", "NONCE_BYTES", "REGISTERS_BYTES", "D
     print(f"TPM_{name} {getattr(v, name)}")
 for name in ("DONE", "REFUSED", "NO_ROOM", "NO_COMMAND", "FRAMER_MORE", "FRAMER_READY", "FRAMER_BROKEN", "EVENT",
              "VARIABLE", "TEXT", "TEXT_UTF16", "NOT_ALLOWED", "IMAGE", "PATH_NODE", "CALLER_OPENED", "ATTEST_REFUSED",
-             "ATTEST_NO_BANK", "ATTEST_REQUIREMENT", "POLICY_NO_DIGEST"):
+             "ATTEST_NO_BANK", "ATTEST_REQUIREMENT", "POLICY_NO_DIGEST", "VERSION", "VERSION_GUID", "SEPARATOR",
+             "LOCALITY", "FIRMWARE", "TABLES", "TAG", "PARTITIONS", "MEASUREMENT", "EVIDENCE", "PARTITION", "TABLE",
+             "TABLE_BYTES", "SIGNATURE_LIST", "OWNED", "LOAD_OPTION", "DEVICE_PATH", "HOLDS_LOAD_OPTION",
+             "HOLDS_BOOT_ORDER", "HOLDS_SIGNATURES", "HOLDS_SIGNATURE", "HOLDS_BYTE"):
     print(f"TPM_{name} {getattr(v, '_' + name)}")
 for kind in v.Kind:
     if kind.value >= 0:

@@ -231,6 +231,17 @@ same_images() {
     "$room/events" images <checks/logs/images.log | grep -q -F ' file=\\EFI\\BOOT\\BOOTX64.EFI'
 }
 
+# same_contents: what the data of the records of each log say that has a list of registers, as Python's struct tells it.
+same_contents() {
+    "$compiler" -std=c99 -O2 -Wall -Wextra -pedantic -Werror -Iinclude -o "$room/contents" checks/contents.c "$archive" ||
+        return 1
+    for list in checks/logs/*.registers; do
+        log=${list%.registers}.log
+        python3 checks/contents.py "$log" >"$room/out.wanted" || return 1
+        "$room/contents" <"$log" >"$room/out" && cmp "$room/out" "$room/out.wanted" || { echo "$log" && return 1; }
+    done
+}
+
 # same_measured: which part of the data the digest of each bank is of, of each log that has a list of objects.
 same_measured() {
     for list in checks/logs/*.json; do
@@ -689,6 +700,11 @@ else
     holds "the variables of the logs through C" same_variables
     holds "the names of types and the texts of the logs through C" same_texts
     holds "the images of the logs through C" same_images
+    if command -v python3 >/dev/null 2>&1; then
+        holds "what the data of the records of the logs say through C" same_contents
+    else
+        skip "what the data of the records of the logs say through C" "there is no python3"
+    fi
     holds "which part of the data was measured through C" same_measured
     holds "whether Secure Boot was on through C" same_boots
     holds "a device through C tells what it does not know" device_faults

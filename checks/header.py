@@ -97,6 +97,12 @@ def crate_numbers():
         | only(constants("tpm_c", "allowed", "TPM_"), "TPM_ALLOWED", "TPM_NOT_ALLOWED")
         | only(constants("tpm_c", "variable", "TPM_"), "TPM_VARIABLE")
         | only(constants("tpm_c", "image", "TPM_"), "TPM_IMAGE", "TPM_PATH_NODE")
+        | constants("tpm_c", "content", "TPM_")
+        | constants("tpm_c", "entry", "TPM_")
+        | constants("tpm_c", "load_option", "TPM_")
+        | constants("tpm_c", "signature_list", "TPM_")
+        | arms("tpm_c", "content", "Held", "TPM_HOLDS_")
+        | {"TPM_TABLE_BYTES": constants("tpm_event_data", "handoffs")["ENTRY"]}
         | arms("tpm_c", "measured", "MeasuredPart", "TPM_MEASURED_")
         | constants("tpm_c", "signature", "TPM_ALG_", "u16")
         | arms("tpm_c", "secure_boot", "SecureBootState", "TPM_SECURE_BOOT_")

@@ -380,6 +380,194 @@ struct tpm_path_node {
  * TPM_LOG_DONE: the node has a fault, or there are no bytes; `view` stays as it was. */
 uint32_t tpm_log_path_node(const uint8_t *bytes, size_t len, struct tpm_path_node *view);
 
+/* What a record's data say, by their parts in them. Of each kind that tpm_log_event_content answers what stands beside it is told, and the
+ * rest of a struct tpm_content stays as it was. GUIDs have 16 bytes as they lie in memory; text in UTF-16 has the less significant byte of
+ * each unit first; numbers are those of the data. None of it is judged: tpm_log_measured says what was measured. */
+
+/* What a variable holds, in `holds`: a load option (tpm_log_load_option); BootOrder's numbers of load options, in the order in which they
+ * are tried, each in two bytes with the less significant one first; lists of signatures (tpm_log_signature_list); one signature
+ * (tpm_log_owned); one byte, as of SecureBoot; no byte; or bytes of which no more is known. */
+#define TPM_HOLDS_LOAD_OPTION ((uint32_t)96)
+#define TPM_HOLDS_BOOT_ORDER ((uint32_t)97)
+#define TPM_HOLDS_SIGNATURES ((uint32_t)98)
+#define TPM_HOLDS_SIGNATURE ((uint32_t)99)
+#define TPM_HOLDS_BYTE ((uint32_t)100)
+#define TPM_HOLDS_EMPTY ((uint32_t)101)
+#define TPM_HOLDS_BYTES ((uint32_t)102)
+
+/* A part of the firmware's code, UEFI_PLATFORM_FIRMWARE_BLOB or UEFI_PLATFORM_FIRMWARE_BLOB2: the address of its first byte in memory, how
+ * many bytes it has there, and its description, without a zero that ends it; no byte where there is none. */
+struct tpm_firmware {
+    uint64_t base;
+    uint64_t size;
+    struct tpm_part name;
+};
+
+/* The tables that the firmware hands to the system, UEFI_HANDOFF_TABLE_POINTERS or UEFI_HANDOFF_TABLE_POINTERS2: their description, as
+ * above; how many they are; and their entries, one behind the other, of TPM_TABLE_BYTES each (tpm_log_table). */
+struct tpm_tables {
+    struct tpm_part name;
+    size_t count;
+    struct tpm_part entries;
+};
+
+/* An event of an operating system, TCG_PCClientTaggedEvent: a number of the system's own, and its data. */
+struct tpm_tag {
+    uint32_t id;
+    struct tpm_part value;
+};
+
+/* The partitions of a disk, UEFI_GPT_DATA: the disk's GUID; how many they are; how many bytes each entry has, 128 at least; and the
+ * entries, one behind the other (tpm_log_partition). */
+struct tpm_partitions {
+    struct tpm_part disk;
+    size_t count;
+    size_t entry_size;
+    struct tpm_part entries;
+};
+
+/* A measurement of a device, DEVICE_SECURITY_EVENT_DATA: SpdmHashAlgo (DSP0274, "ALGORITHMS"); DeviceType, 0 where none is told, 1 of PCI, 2
+ * of USB; SpdmMeasurementBlock; and DeviceContext. */
+struct tpm_measurement {
+    uint32_t hash;
+    uint32_t device_type;
+    struct tpm_part block;
+    struct tpm_part context;
+};
+
+/* What a device showed, DEVICE_SECURITY_EVENT_DATA2: AuthState, 0 for success, 1 for no authentication, 2 for no binding, 3 for a failure
+ * without a signature, 4 for a signature that is not valid, 255 for no SPDM; DeviceType, as above; SubHeaderType, 0 of measurement blocks,
+ * 1 of a chain of certificates, 2 of something of the platform's maker; SubHeaderUID, by which events belong together; the device path
+ * (tpm_log_path_node); the sub-header; and DeviceContext. */
+struct tpm_evidence {
+    uint8_t auth_state;
+    uint32_t device_type;
+    uint32_t sub_header_type;
+    uint64_t uid;
+    struct tpm_part path;
+    struct tpm_part sub_header;
+    struct tpm_part context;
+};
+
+struct tpm_content {
+    struct tpm_variable variable;
+    uint32_t holds;
+    struct tpm_part text;
+    uint32_t number;
+    struct tpm_image image;
+    struct tpm_firmware firmware;
+    struct tpm_tables tables;
+    struct tpm_tag tag;
+    struct tpm_partitions partitions;
+    struct tpm_measurement measurement;
+    struct tpm_evidence evidence;
+};
+
+/* Kinds besides TPM_VARIABLE (`variable` and `holds`), TPM_TEXT, TPM_TEXT_UTF16 (`text`) and TPM_IMAGE (`image`; behind the path are no bytes
+ * by the profile, and 8 or 9 where an older shim measured it): EV_S_CRTM_VERSION in UTF-16, or as a GUID; EV_SEPARATOR's 0, 0xFFFFFFFF, or
+ * another number where an error was met; and the start-up locality, which EV_NO_ACTION tells. */
+#define TPM_VERSION ((uint32_t)80)      /* `text` */
+#define TPM_VERSION_GUID ((uint32_t)81) /* `text` */
+#define TPM_SEPARATOR ((uint32_t)82)    /* `number` */
+#define TPM_LOCALITY ((uint32_t)83)     /* `number` */
+#define TPM_FIRMWARE ((uint32_t)84)     /* `firmware` */
+#define TPM_TABLES ((uint32_t)85)       /* `tables` */
+#define TPM_TAG ((uint32_t)86)          /* `tag` */
+#define TPM_PARTITIONS ((uint32_t)87)   /* `partitions` */
+#define TPM_MEASUREMENT ((uint32_t)88)  /* `measurement` */
+#define TPM_EVIDENCE ((uint32_t)89)     /* `evidence` */
+
+/* Tells what these bytes, the data of a record of this type, say, and answers their kind (PC Client Platform Firmware Profile, "Event
+ * Types"); or TPM_LOG_DONE: nothing of them is known, as of another type, or of data with a fault. */
+uint32_t tpm_log_event_content(uint32_t kind, const uint8_t *bytes, size_t len, struct tpm_content *view);
+
+/* A partition, EFI_PARTITION_ENTRY: the GUID of its type, and its own; its first and its last block; Attributes; and its name in UTF-16, to
+ * the first zero. */
+struct tpm_partition {
+    struct tpm_part type;
+    struct tpm_part guid;
+    uint64_t first;
+    uint64_t last;
+    uint64_t attributes;
+    struct tpm_part name;
+};
+
+/* A partition was told. */
+#define TPM_PARTITION ((uint32_t)90)
+
+/* Tells the partition that these bytes are, an entry of so many as struct tpm_partitions says, by its parts in them. TPM_PARTITION: it is in
+ * `view`. TPM_LOG_DONE: they are fewer than 128; `view` stays as it was. */
+uint32_t tpm_log_partition(const uint8_t *bytes, size_t len, struct tpm_partition *view);
+
+/* A table, EFI_CONFIGURATION_TABLE: the GUID that tells what it is, and the address of its first byte. */
+struct tpm_table {
+    struct tpm_part guid;
+    uint64_t address;
+};
+
+/* How many bytes the entry of a table has. */
+#define TPM_TABLE_BYTES 24
+
+/* A table was told. */
+#define TPM_TABLE ((uint32_t)91)
+
+/* Tells the table with which these bytes begin, by its parts in them. TPM_TABLE: it is in `view`. TPM_LOG_DONE: they are fewer than
+ * TPM_TABLE_BYTES; `view` stays as it was. */
+uint32_t tpm_log_table(const uint8_t *bytes, size_t len, struct tpm_table *view);
+
+/* A list of signatures, EFI_SIGNATURE_LIST: the GUID of their type; SignatureHeader; how many they are; how many bytes each has, 16 at
+ * least; and the signatures, one behind the other (tpm_log_owned). */
+struct tpm_signature_list {
+    struct tpm_part type;
+    struct tpm_part header;
+    size_t count;
+    size_t entry_size;
+    struct tpm_part entries;
+};
+
+/* A list of signatures was told. */
+#define TPM_SIGNATURE_LIST ((uint32_t)92)
+
+/* Tells the first of the lists that these bytes, the value of a variable, are. TPM_SIGNATURE_LIST: it is in `view`, and the next list is
+ * behind its entries. TPM_LOG_DONE: it has a fault, or there are no bytes; `view` stays as it was. */
+uint32_t tpm_log_signature_list(const uint8_t *bytes, size_t len, struct tpm_signature_list *view);
+
+/* A signature, EFI_SIGNATURE_DATA: the GUID of its owner, and its data, as a certificate or a hash, which are not parsed. */
+struct tpm_owned {
+    struct tpm_part owner;
+    struct tpm_part value;
+};
+
+/* A signature was told. */
+#define TPM_OWNED ((uint32_t)93)
+
+/* Tells the signature that these bytes, an entry of a list, or the value of a variable that holds one, are. TPM_OWNED: it is in `view`.
+ * TPM_LOG_DONE: they are fewer than 16; `view` stays as it was. */
+uint32_t tpm_log_owned(const uint8_t *bytes, size_t len, struct tpm_owned *view);
+
+/* What the firmware may start, EFI_LOAD_OPTION: Attributes, whose bit 0 says that it is tried; its description in UTF-16, without the zero
+ * that ends it; its device paths, one behind the other (tpm_log_device_path); and OptionalData, which is handed to the program. */
+struct tpm_load_option {
+    uint32_t attributes;
+    struct tpm_part description;
+    struct tpm_part path;
+    struct tpm_part value;
+};
+
+/* A load option was told. */
+#define TPM_LOAD_OPTION ((uint32_t)94)
+
+/* Tells the load option that these bytes, the value of a variable, are. TPM_LOAD_OPTION: it is in `view`. TPM_LOG_DONE: they are none;
+ * `view` stays as it was. */
+uint32_t tpm_log_load_option(const uint8_t *bytes, size_t len, struct tpm_load_option *view);
+
+/* A device path was told. */
+#define TPM_DEVICE_PATH ((uint32_t)95)
+
+/* Tells the first of the device paths that these bytes are, one behind the other. TPM_DEVICE_PATH: it is in `view`, and the next is behind
+ * it; tpm_log_path_node tells its nodes. TPM_LOG_DONE: there are no bytes; `view` stays as it was. */
+uint32_t tpm_log_device_path(const uint8_t *bytes, size_t len, struct tpm_part *view);
+
 /* Which part of a record's data a digest is of: all of them; the value of the variable that they are; in EV_IPL, the text behind a
  * prefix that GRUB writes and does not measure, as `kernel_cmdline: `; all but the last byte; or none of these, so that something
  * else was measured than what the log says. */

@@ -264,9 +264,11 @@ func (e Event) Variable() (found Variable, is bool) {
 	if C.tpm_log_variable(C.uint32_t(e.Type), place(e.Data), size(e.Data), &it) != C.TPM_VARIABLE {
 		return found, false
 	}
-	copy(found.GUID[:], part(e.Data, it.guid))
-	found.Name, found.Value = wide(part(e.Data, it.name)), part(e.Data, it.value)
-	return found, true
+	return variableOf(e.Data, it), true
+}
+
+func variableOf(data []byte, it C.struct_tpm_variable) Variable {
+	return Variable{guid(data, it.guid), wide(part(data, it.name)), part(data, it.value)}
 }
 
 // A PathNode of a device path (UEFI Specification, "Generic Device Path Structures"), whose data are lent from the
@@ -299,16 +301,24 @@ func (i Image) File() (name string) {
 // EV_EFI_RUNTIME_SERVICES_DRIVER.
 func (e Event) Image() (found Image, is bool) {
 	var it C.struct_tpm_image
-	var node C.struct_tpm_path_node
 	if C.tpm_log_image(C.uint32_t(e.Type), place(e.Data), size(e.Data), &it) != C.TPM_IMAGE {
 		return found, false
 	}
-	found = Image{Address: uint64(it.address), Size: uint64(it.size), LinkAddress: uint64(it.link_address)}
-	for rest := part(e.Data, it.path); C.tpm_log_path_node(place(rest), size(rest), &node) == C.TPM_PATH_NODE; {
-		found.Path = append(found.Path, PathNode{uint8(node._type), uint8(node.subtype), part(rest, node.value)})
-		rest = rest[node.value.at+node.value.len:]
+	return imageOf(e.Data, it), true
+}
+
+func imageOf(data []byte, it C.struct_tpm_image) Image {
+	return Image{uint64(it.address), uint64(it.size), uint64(it.link_address), nodes(part(data, it.path))}
+}
+
+// nodes are those of a device path, up to the first fault.
+func nodes(path []byte) (found []PathNode) {
+	var node C.struct_tpm_path_node
+	for C.tpm_log_path_node(place(path), size(path), &node) == C.TPM_PATH_NODE {
+		found = append(found, PathNode{uint8(node._type), uint8(node.subtype), part(path, node.value)})
+		path = path[node.value.at+node.value.len:]
 	}
-	return found, true
+	return found
 }
 
 // Events goes over the records of a log, as a bufio.Scanner over lines: Next, Event, and Err behind the last.

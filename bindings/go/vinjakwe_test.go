@@ -543,6 +543,61 @@ func TestImagesOfEachLogWithAList(t *testing.T) {
 	}
 }
 
+// The list beside the log has the partitions of each disk.
+func TestPartitionsOfALog(t *testing.T) {
+	events := NewEvents(read(t, "logs/partitions.log"))
+	found := 0
+	for _, line := range strings.Split(strings.TrimSpace(string(read(t, "logs/partitions.json"))), "\n") {
+		var told struct {
+			Number     int
+			Measured   map[string]string
+			Partitions *struct {
+				Count int
+				List  []struct {
+					First, Last uint64
+					Name        string
+				}
+			}
+		}
+		if err := json.Unmarshal([]byte(line), &told); err != nil {
+			t.Fatal(err)
+		}
+		if told.Measured == nil || !events.Next() || told.Partitions == nil {
+			continue
+		}
+		it, is := events.Event().Content().(Partitions)
+		if !is || len(it.Partitions) != told.Partitions.Count || len(told.Partitions.List) != told.Partitions.Count {
+			t.Fatal(line, it)
+		}
+		for i, wanted := range told.Partitions.List {
+			one := it.Partitions[i]
+			if one.First != wanted.First || one.Last != wanted.Last || one.Name != wanted.Name {
+				t.Error(line, one)
+			}
+			found++
+		}
+	}
+	if found == 0 {
+		t.Error("no partition")
+	}
+}
+
+func TestContentsOfOtherRecords(t *testing.T) {
+	event := Event{Type: 4, Data: []byte{0xff, 0xff, 0xff, 0xff}}
+	if event.Content() != Separator(0xffffffff) {
+		t.Error(event.Content())
+	}
+	event.Data = nil
+	if event.Content() != nil {
+		t.Error(event.Content())
+	}
+	for events := NewEvents(read(t, "logs/secure_on.log")); events.Next(); {
+		if it, is := events.Event().Content().(VariableContent); is && it.Name == "SecureBoot" && it.Holds != HeldByte(1) {
+			t.Error(it)
+		}
+	}
+}
+
 // The lists beside the logs have of each record what each digest is of.
 func TestWhatWasMeasuredOfEachLogWithAList(t *testing.T) {
 	lists, _ := filepath.Glob(checks + "logs/*.json")

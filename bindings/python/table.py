@@ -62,6 +62,78 @@ def texts(log):
         yield f"{it.register} {name}" + (f" text {shown}" if said else "")
 
 
+def shown(data):
+    return bytes(data).hex() or "-"
+
+
+def guid(it):
+    return it.bytes_le.hex()
+
+
+def wide(text):
+    """In UTF-16, with U+FFFD for half of a pair, as Go and Rust have it."""
+    return shown(text.encode("utf-16-le", "surrogatepass").decode("utf-16-le", "replace").encode("utf-16-le"))
+
+
+def nodes(path):
+    return ",".join(f"{it.type}:{it.subtype}:{it.data.hex()}" for it in path) or "-"
+
+
+def held(it):
+    if isinstance(it, vinjakwe.LoadOption):
+        yield f"option {it.attributes} {wide(it.description)} {shown(it.data)}"
+        yield from (f"path {nodes(path)}" for path in it.paths)
+    elif isinstance(it, vinjakwe.BootOrder):
+        yield " ".join(["order", *map(str, it.numbers)])
+    elif isinstance(it, vinjakwe.SignatureLists):
+        for one in it.lists:
+            yield f"list {guid(one.type)} {shown(one.header)}"
+            for owned in one.signatures:
+                yield from held(owned)
+    elif isinstance(it, vinjakwe.Owned):
+        yield f"owned {guid(it.owner)} {shown(it.data)}"
+    elif isinstance(it, int):
+        yield f"byte {it}"
+
+
+def content(it):
+    if isinstance(it, vinjakwe.Holding):
+        vendor, name, value = it.variable
+        yield f"variable {guid(vendor)} {wide(name)} {shown(value)}"
+        yield from held(it.holds)
+    elif isinstance(it, vinjakwe.Text):
+        yield f"text {it.text.encode().hex()}"
+    elif isinstance(it, vinjakwe.Version):
+        is_text = isinstance(it.version, str)
+        yield f"version {wide(it.version)}" if is_text else f"version-guid {guid(it.version)}"
+    elif isinstance(it, (vinjakwe.Separator, vinjakwe.Locality)):
+        yield f"{type(it).__name__.lower()} {it.number}"
+    elif isinstance(it, vinjakwe.Image):
+        yield f"image {it.address} {it.size} {it.link_address} {nodes(it.path)}"
+    elif isinstance(it, vinjakwe.Firmware):
+        yield f"firmware {it.base} {it.size} {shown(it.name)}"
+    elif isinstance(it, vinjakwe.Tables):
+        yield f"tables {shown(it.name)}"
+        yield from (f"table {guid(one.guid)} {one.address}" for one in it.tables)
+    elif isinstance(it, vinjakwe.Tag):
+        yield f"tag {it.id} {shown(it.data)}"
+    elif isinstance(it, vinjakwe.Partitions):
+        yield f"partitions {guid(it.disk)}"
+        for one in it.partitions:
+            yield (f"partition {guid(one.type)} {guid(one.guid)} {one.first} {one.last} {one.attributes} "
+                   f"{wide(one.name)}")
+    elif isinstance(it, vinjakwe.Measurement):
+        yield f"measurement {it.hash} {it.device_type} {shown(it.block)} {shown(it.context)}"
+    elif isinstance(it, vinjakwe.Evidence):
+        yield (f"evidence {it.auth_state} {it.device_type} {it.sub_header_type} {it.uid} {nodes(it.path)} "
+               f"{shown(it.sub_header)} {shown(it.context)}")
+
+
+def contents(log):
+    for it in vinjakwe.events(log):
+        yield from (f"{it.number} {line}" for line in content(it.content))
+
+
 def boot(log, bank):
     try:
         it = vinjakwe.secure_boot(log, bank)
@@ -149,6 +221,8 @@ class Answers:
             yield from events(whole(*words))
         elif verb == "texts":
             yield from texts(whole(*words))
+        elif verb == "contents":
+            yield from contents(whole(*words))
         elif verb == "boot":
             yield from boot(whole(words[0]), words[1])
         elif verb == "quote":

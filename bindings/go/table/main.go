@@ -214,6 +214,8 @@ func main() {
 			events(read(words[1]))
 		case "texts":
 			texts(read(words[1]))
+		case "contents":
+			contents(read(words[1]))
 		case "boot":
 			boot(words)
 		case "quote":

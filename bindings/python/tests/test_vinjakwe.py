@@ -133,6 +133,85 @@ class Images(unittest.TestCase):
         self.assertIn("\\EFI\\BOOT\\BOOTX64.EFI", files)
 
 
+def told_of(content):
+    """What `events --json` prints of a content, as far as it is the same for each, by the words that it has there."""
+    if isinstance(content, v.Holding):
+        vendor, name, value = content.variable
+        told = {"guid": str(vendor), "name": name, "data": value.hex()}
+        if isinstance(content.holds, v.LoadOption):
+            it = content.holds
+            told["option"] = {"attributes": f"{it.attributes:#x}", "description": it.description, "data": it.data.hex()}
+        if isinstance(content.holds, v.BootOrder):
+            told["order"] = [f"{number:04x}" for number in content.holds.numbers]
+        if isinstance(content.holds, v.Owned):
+            owned = content.holds
+            told["signature"] = {"owner": str(owned.owner), "sha256": hashlib.sha256(owned.data).hexdigest()}
+        return "variable", told
+    if isinstance(content, v.Separator):
+        return "separator", f"{content.number:08x}"
+    if isinstance(content, v.Locality):
+        return "locality", content.number
+    if isinstance(content, v.Version):
+        return ("text", content.version) if isinstance(content.version, str) else ("guid", str(content.version))
+    if isinstance(content, v.Text):
+        return "text", content.text
+    if isinstance(content, v.Image):
+        numbers = f"{content.address:#x}", content.size, f"{content.link_address:#x}"
+        return "image", dict(zip(("address", "length", "link"), numbers))
+    if isinstance(content, v.Firmware):
+        return "firmware", {"address": f"{content.base:#x}", "length": content.size}
+    if isinstance(content, v.Tables):
+        listed = [{"guid": str(it.guid), "address": f"{it.address:#x}"} for it in content.tables]
+        return "tables", {"count": len(listed), "list": listed}
+    if isinstance(content, v.Tag):
+        return "tag", {"id": f"{content.id:#x}"}
+    if isinstance(content, v.Partitions):
+        listed = [{"type": str(it.type), "guid": str(it.guid), "first": it.first, "last": it.last,
+                   "attributes": f"{it.attributes:#x}", "name": it.name} for it in content.partitions]
+        return "partitions", {"count": len(listed), "disk": str(content.disk), "list": listed}
+    if isinstance(content, v.Measurement):
+        return "device", {"hash": f"{content.hash:#x}", "device_type": content.device_type,
+                          "block": content.block.hex(), "context": content.context.hex()}
+    return "device", {"uid": f"{content.uid:#x}", "auth_state": content.auth_state, "device_type": content.device_type,
+                      "sub_header_type": content.sub_header_type, "sub_header": content.sub_header.hex(),
+                      "context": content.context.hex()}
+
+
+class Contents(unittest.TestCase):
+    def assert_within(self, found, told, words):
+        """What was found is what is told of it, which has U+FFFD for half of a pair."""
+        if isinstance(found, dict):
+            for name, value in found.items():
+                if name in told:
+                    self.assert_within(value, told[name], words)
+        elif isinstance(found, list) and found and isinstance(found[0], dict):
+            self.assertEqual(len(found), len(told))
+            for one, other in zip(found, told):
+                self.assert_within(one, other, words)
+        elif isinstance(found, str):
+            self.assertEqual(found.encode("utf-16-le", "surrogatepass").decode("utf-16-le", "replace"), told, words)
+        else:
+            self.assertEqual(found, told, words)
+
+    def test_each_log_with_a_list_of_objects(self):
+        kinds = set()
+        for path, told in objects():
+            for event, it in zip(v.events(path), (it for it in told if "measured" in it)):
+                if event.content is None:
+                    continue
+                name, found = told_of(event.content)
+                if name in it:
+                    kinds.add(type(event.content))
+                    self.assert_within(found, it[name], (path, it["number"]))
+        self.assertEqual(len(kinds), 12)
+
+    def test_a_type_without_a_kind(self):
+        event = v.Event(1, 0, 0, 0x80000010, {}, b"words", ())
+        self.assertIsNone(event.content)
+        self.assertIsNone(v.content(event._replace(type=4)))
+        self.assertEqual(v.content(event._replace(type=5)), v.Text("words"))
+
+
 class Measured(unittest.TestCase):
     def test_each_log_with_a_list_of_objects(self):
         for path, told in objects():

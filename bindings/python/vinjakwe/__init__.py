@@ -15,6 +15,7 @@ import uuid
 from contextlib import contextmanager
 from ctypes import POINTER, Structure, byref, c_size_t, c_uint8, c_uint16, c_uint32, c_uint64, c_void_p
 from ctypes.util import find_library
+from dataclasses import dataclass
 from mmap import mmap
 from pathlib import Path
 from typing import (
@@ -28,13 +29,15 @@ if TYPE_CHECKING:
     Selected = Union[Buffer, str]
 
 __all__ = [
-    "ANY_NONCE", "ANY_SELECTION", "Attest", "BrokenStream", "BUFFER_BYTES", "Caller", "CODES", "Command", "COMMANDS",
-    "Counter", "Device", "Event", "Framer", "HASHES", "Image", "Kind", "LibraryError", "LogFault", "Mismatch",
-    "NONCE_BYTES", "OWNER_BYTES", "PathNode", "Policy", "Refusal", "Registers", "Response", "SecureBoot",
-    "SecureBootFault", "SecureBootState", "Session", "Signature", "SizedAttest", "Variable", "Verdict",
-    "build_command", "changes_nv", "check", "check_quote", "code_name", "decode_attest", "decode_command",
-    "decode_response", "decode_signature", "event_type_name", "events", "image", "measured", "replay", "secure_boot",
-    "selection", "text", "variable", "verify", "vouched", "vouched_text", "vouched_variable",
+    "ANY_NONCE", "ANY_SELECTION", "Attest", "BootOrder", "BrokenStream", "BUFFER_BYTES", "Caller", "CODES", "Command",
+    "COMMANDS", "Content", "Counter", "Device", "Event", "Evidence", "Firmware", "Framer", "HASHES", "Holding", "Image",
+    "Kind", "LibraryError", "LoadOption", "Locality", "LogFault", "Measurement", "Mismatch", "NONCE_BYTES", "Owned",
+    "OWNER_BYTES", "Partition", "Partitions", "PathNode", "Policy", "Refusal", "Registers", "Response", "SecureBoot",
+    "SecureBootFault", "SecureBootState", "Separator", "Session", "Signature", "SignatureList", "SignatureLists",
+    "SizedAttest", "Table", "Tables", "Tag", "Text", "Variable", "Verdict", "Version", "build_command", "changes_nv",
+    "check", "check_quote", "code_name", "content", "decode_attest", "decode_command", "decode_response",
+    "decode_signature", "event_type_name", "events", "image", "measured", "replay", "secure_boot", "selection", "text",
+    "variable", "verify", "vouched", "vouched_text", "vouched_variable",
 ]
 __version__ = "0.1.0"
 
@@ -64,6 +67,11 @@ _DONE, _REFUSED, _NO_ROOM, _NO_COMMAND = range(4)
 _FRAMER_MORE, _FRAMER_READY, _FRAMER_BROKEN = range(3)
 _EVENT, _VARIABLE, _TEXT, _TEXT_UTF16, _CALLER_OPENED = 32, 33, 34, 35, 0
 _NOT_ALLOWED, _IMAGE, _PATH_NODE = 42, 43, 44
+_VERSION, _VERSION_GUID, _SEPARATOR, _LOCALITY, _FIRMWARE, _TABLES, _TAG = range(80, 87)
+_PARTITIONS, _MEASUREMENT, _EVIDENCE, _PARTITION, _TABLE, _SIGNATURE_LIST, _OWNED = range(87, 94)
+_LOAD_OPTION, _DEVICE_PATH = 94, 95
+_HOLDS_LOAD_OPTION, _HOLDS_BOOT_ORDER, _HOLDS_SIGNATURES, _HOLDS_SIGNATURE, _HOLDS_BYTE = range(96, 101)
+_TABLE_BYTES = 24
 _LOG_DONE, _ATTEST_DIFFERS, _ATTEST_REFUSED, _ATTEST_NO_BANK, _ATTEST_REQUIREMENT = 0, 16, 17, 18, 22
 _POLICY_NO_DIGEST = 5
 _SECURE_BOOT_NO_ROOM, _SECURE_BOOT_NOT_MEASURED = 51, 64
@@ -203,6 +211,58 @@ class _PathNode(Structure):
     _fields_ = [("type", c_uint8), ("subtype", c_uint8), ("value", _Part)]
 
 
+class _Firmware(Structure):
+    _fields_ = [("base", c_uint64), ("size", c_uint64), ("name", _Part)]
+
+
+class _Tables(Structure):
+    _fields_ = [("name", _Part), ("count", c_size_t), ("entries", _Part)]
+
+
+class _Tag(Structure):
+    _fields_ = [("id", c_uint32), ("value", _Part)]
+
+
+class _Partitions(Structure):
+    _fields_ = [("disk", _Part), ("count", c_size_t), ("entry_size", c_size_t), ("entries", _Part)]
+
+
+class _Measurement(Structure):
+    _fields_ = [("hash", c_uint32), ("device_type", c_uint32), ("block", _Part), ("context", _Part)]
+
+
+class _Evidence(Structure):
+    _fields_ = [("auth_state", c_uint8), ("device_type", c_uint32), ("sub_header_type", c_uint32), ("uid", c_uint64),
+                ("path", _Part), ("sub_header", _Part), ("context", _Part)]
+
+
+class _Content(Structure):
+    _fields_ = [("variable", _Variable), ("holds", c_uint32), ("text", _Part), ("number", c_uint32), ("image", _Image),
+                ("firmware", _Firmware), ("tables", _Tables), ("tag", _Tag), ("partitions", _Partitions),
+                ("measurement", _Measurement), ("evidence", _Evidence)]
+
+
+class _Partition(Structure):
+    _fields_ = [("type", _Part), ("guid", _Part), ("first", c_uint64), ("last", c_uint64), ("attributes", c_uint64),
+                ("name", _Part)]
+
+
+class _Table(Structure):
+    _fields_ = [("guid", _Part), ("address", c_uint64)]
+
+
+class _SignatureList(Structure):
+    _fields_ = [("type", _Part), ("header", _Part), ("count", c_size_t), ("entry_size", c_size_t), ("entries", _Part)]
+
+
+class _Owned(Structure):
+    _fields_ = [("owner", _Part), ("value", _Part)]
+
+
+class _LoadOption(Structure):
+    _fields_ = [("attributes", c_uint32), ("description", _Part), ("path", _Part), ("value", _Part)]
+
+
 class _SecureBoot(Structure):
     _fields_ = [("dma_protection_disabled", c_uint32), ("pk", c_uint32), ("kek", c_uint32), ("db", c_uint32),
                 ("dbx", c_uint32)]
@@ -282,6 +342,12 @@ def _load() -> tuple[ctypes.PyDLL, ctypes.CDLL]:
         ("log_variable", number, [number, p, size, POINTER(_Variable)]),
         ("log_image", number, [number, p, size, POINTER(_Image)]),
         ("log_path_node", number, [p, size, POINTER(_PathNode)]),
+        ("log_event_content", number, [number, p, size, POINTER(_Content)]),
+        ("log_partition", number, [p, size, POINTER(_Partition)]), ("log_table", number, [p, size, POINTER(_Table)]),
+        ("log_signature_list", number, [p, size, POINTER(_SignatureList)]),
+        ("log_owned", number, [p, size, POINTER(_Owned)]),
+        ("log_load_option", number, [p, size, POINTER(_LoadOption)]),
+        ("log_device_path", number, [p, size, POINTER(_Part)]),
         ("log_secure_boot", number, [p, size, c_uint16, POINTER(_SecureBoot), p, size, POINTER(size), count]),
         ("log_check_quote", number, [p, size, p, size, c_uint16, count]),
         ("log_check_attest", number, [p, size, p, size, c_uint16, p, size, p, size, POINTER(_AttestFault)]),
@@ -529,6 +595,11 @@ class Event(NamedTuple):
     data: bytes
     hashed: tuple[str | int, ...]
 
+    @property
+    def content(self) -> Content | None:
+        """What the data say: `content` of the record."""
+        return content(self)
+
 
 def events(log: Log) -> Iterator[Event]:
     """The records of a log, one by one: of its bytes, its path, or a file that is read to its end. Raises LogFault
@@ -627,15 +698,314 @@ def image(event: Event) -> Image | None:
     """The image that the data of a record tell (PC Client Platform Firmware Profile, "UEFI_IMAGE_LOAD_EVENT"), or None
     where they tell none, or the type is another than EV_EFI_BOOT_SERVICES_APPLICATION, EV_EFI_BOOT_SERVICES_DRIVER and
     EV_EFI_RUNTIME_SERVICES_DRIVER."""
-    view, node, path = _Image(), _PathNode(), []
+    view = _Image()
     if _lend(_library.tpm_log_image, event.type, (event.data,), byref(view)) != _IMAGE:
         return None
-    with memoryview(event.data) as data:
-        rest = _part(data, view.path)
-    while _lend(_library.tpm_log_path_node, (rest,), byref(node)) == _PATH_NODE:
-        path.append(PathNode(node.type, node.subtype, _part(memoryview(rest), node.value)))
-        rest = rest[node.value.at + node.value.len:]
-    return Image(view.address, view.size, view.link_address, tuple(path))
+    return _image_of(event.data, view)
+
+
+def _image_of(data: bytes, view: _Image) -> Image:
+    return Image(view.address, view.size, view.link_address, _nodes(_cut(data, view.path)))
+
+
+def _nodes(path: bytes) -> tuple[PathNode, ...]:
+    """The nodes of a device path, up to the first fault."""
+    node, found = _PathNode(), []
+    while _lend(_library.tpm_log_path_node, (path,), byref(node)) == _PATH_NODE:
+        found.append(PathNode(node.type, node.subtype, _cut(path, node.value)))
+        path = path[node.value.at + node.value.len:]
+    return tuple(found)
+
+
+def _cut(data: bytes, it: _Part) -> bytes:
+    return data[it.at:it.at + it.len]
+
+
+def _wide(data: bytes, it: _Part) -> str:
+    return _cut(data, it).decode("utf-16-le", "surrogatepass")
+
+
+def _guid(data: bytes, it: _Part) -> uuid.UUID:
+    return uuid.UUID(bytes_le=_cut(data, it))
+
+
+@dataclass(frozen=True)
+class Text:
+    """Text of EV_POST_CODE, EV_ACTION, EV_IPL and EV_EFI_ACTION, without zeros that end it."""
+
+    text: str
+
+
+@dataclass(frozen=True)
+class Version:
+    """The version of the root of trust, of EV_S_CRTM_VERSION: a text, or a GUID."""
+
+    version: str | uuid.UUID
+
+
+@dataclass(frozen=True)
+class Separator:
+    """The number of EV_SEPARATOR: 0 or 0xFFFFFFFF, or another where an error was met."""
+
+    number: int
+
+
+@dataclass(frozen=True)
+class Locality:
+    """The start-up locality, which EV_NO_ACTION tells."""
+
+    number: int
+
+
+@dataclass(frozen=True)
+class Firmware:
+    """A part of the firmware's code: the address of its first byte in memory, how many bytes it has there, and its
+    description, or b""."""
+
+    base: int
+    size: int
+    name: bytes
+
+
+@dataclass(frozen=True)
+class Table:
+    """A table that the firmware hands to the system: the GUID that tells what it is, and the address of its first
+    byte."""
+
+    guid: uuid.UUID
+    address: int
+
+
+@dataclass(frozen=True)
+class Tables:
+    """The tables that the firmware hands to the system, and their description, or b""."""
+
+    name: bytes
+    tables: tuple[Table, ...]
+
+
+@dataclass(frozen=True)
+class Tag:
+    """An event of an operating system, of EV_EVENT_TAG: a number of the system's own, and its data."""
+
+    id: int
+    data: bytes
+
+
+@dataclass(frozen=True)
+class Partition:
+    """A partition (EFI_PARTITION_ENTRY): its type, its own GUID, its first and its last block, its attributes' bits,
+    and its name."""
+
+    type: uuid.UUID
+    guid: uuid.UUID
+    first: int
+    last: int
+    attributes: int
+    name: str
+
+
+@dataclass(frozen=True)
+class Partitions:
+    """The partitions of a disk, of EV_EFI_GPT_EVENT, and the disk's GUID. An entry whose type is UUID(int=0) is not
+    used."""
+
+    disk: uuid.UUID
+    partitions: tuple[Partition, ...]
+
+
+@dataclass(frozen=True)
+class Measurement:
+    """A measurement of a device by SPDM, DEVICE_SECURITY_EVENT_DATA: SpdmHashAlgo; DeviceType, 0 where none is told, 1
+    of PCI, 2 of USB; SpdmMeasurementBlock; and DeviceContext."""
+
+    hash: int
+    device_type: int
+    block: bytes
+    context: bytes
+
+
+@dataclass(frozen=True)
+class Evidence:
+    """What a device showed by SPDM, DEVICE_SECURITY_EVENT_DATA2: AuthState, 0 for success, 1 for no authentication, 2
+    for no binding, 3 for a failure without a signature, 4 for a signature that is not valid, 255 for no SPDM;
+    DeviceType, as of a Measurement; SubHeaderType, 0 of measurement blocks, 1 of a chain of certificates, 2 of
+    something of the platform's maker; SubHeaderUID, by which events belong together; the nodes of its device path; the
+    sub-header; and DeviceContext."""
+
+    auth_state: int
+    device_type: int
+    sub_header_type: int
+    uid: int
+    path: tuple[PathNode, ...]
+    sub_header: bytes
+    context: bytes
+
+
+@dataclass(frozen=True)
+class LoadOption:
+    """What the firmware may start, of Boot####: its attributes' bits, of which 1 is that it is tried; its description;
+    its device paths, each by its nodes up to the first fault; and what is handed to the program."""
+
+    attributes: int
+    description: str
+    paths: tuple[tuple[PathNode, ...], ...]
+    data: bytes
+
+
+@dataclass(frozen=True)
+class BootOrder:
+    """The numbers of load options, of BootOrder, in the order in which they are tried."""
+
+    numbers: tuple[int, ...]
+
+
+@dataclass(frozen=True)
+class Owned:
+    """A signature of a list, or the one by which something was let be loaded: its owner, and a certificate or a hash,
+    which is not parsed."""
+
+    owner: uuid.UUID
+    data: bytes
+
+
+@dataclass(frozen=True)
+class SignatureList:
+    """A list of signatures: their type, a header, and the signatures."""
+
+    type: uuid.UUID
+    header: bytes
+    signatures: tuple[Owned, ...]
+
+
+@dataclass(frozen=True)
+class SignatureLists:
+    """The lists of PK, KEK, db, dbx, dbt and dbr, up to the first fault."""
+
+    lists: tuple[SignatureList, ...]
+
+
+@dataclass(frozen=True)
+class Holding:
+    """A variable, and what it holds: one byte, as of SecureBoot, is a number; bytes of which no more is known are
+    bytes, or b"" where there is none."""
+
+    variable: Variable
+    holds: LoadOption | BootOrder | SignatureLists | Owned | int | bytes
+
+
+Content = Union[Holding, Text, Version, Separator, Locality, Image, Firmware, Tables, Tag, Partitions, Measurement,
+                Evidence]
+
+
+def content(event: Event) -> Content | None:
+    """What the data of a record say, by the kind that its type has (PC Client Platform Firmware Profile, "Event
+    Types"), or None where nothing of them is known, as of another type, or of data with a fault. `measured` says
+    whether the record's digests are of these data. Units of text that are no UTF-16 stay as they are."""
+    view, data = _Content(), event.data
+    kind = _lend(_library.tpm_log_event_content, event.type, (data,), byref(view))
+    told = _CONTENTS.get(kind)
+    return told(data, view) if told else None
+
+
+def _told_each(
+    data: bytes, entries: _Part, size: int, call: Callable[..., int], view: Any,
+) -> Iterator[tuple[bytes, Any]]:
+    """Each of the entries of this size, and what the call tells of it."""
+    for at in range(entries.at, entries.at + entries.len, size):
+        entry = data[at:at + size]
+        _lend(call, (entry,), byref(view))
+        yield entry, view
+
+
+def _holding_of(data: bytes, view: _Content) -> Holding:
+    it = view.variable
+    value = _cut(data, it.value)
+    return Holding(Variable(_guid(data, it.guid), _wide(data, it.name), value), _held(view.holds, value))
+
+
+def _held(holds: int, value: bytes) -> LoadOption | BootOrder | SignatureLists | Owned | int | bytes:
+    if holds == _HOLDS_LOAD_OPTION:
+        return _load_option(value)
+    if holds == _HOLDS_BOOT_ORDER:
+        return BootOrder(tuple(int.from_bytes(value[at:at + 2], "little") for at in range(0, len(value), 2)))
+    if holds == _HOLDS_SIGNATURES:
+        return SignatureLists(tuple(_lists(value)))
+    if holds == _HOLDS_SIGNATURE:
+        return _owned(value)
+    return value[0] if holds == _HOLDS_BYTE else value
+
+
+def _load_option(value: bytes) -> LoadOption:
+    it, path, paths = _LoadOption(), _Part(), []
+    _lend(_library.tpm_log_load_option, (value,), byref(it))
+    rest = _cut(value, it.path)
+    while _lend(_library.tpm_log_device_path, (rest,), byref(path)) == _DEVICE_PATH:
+        paths.append(_nodes(_cut(rest, path)))
+        rest = rest[path.at + path.len:]
+    return LoadOption(it.attributes, _wide(value, it.description), tuple(paths), _cut(value, it.value))
+
+
+def _lists(value: bytes) -> Iterator[SignatureList]:
+    it = _SignatureList()
+    while _lend(_library.tpm_log_signature_list, (value,), byref(it)) == _SIGNATURE_LIST:
+        entries = _cut(value, it.entries)
+        yield SignatureList(_guid(value, it.type), _cut(value, it.header), tuple(
+            _owned(entries[at:at + it.entry_size]) for at in range(0, len(entries), it.entry_size)))
+        value = value[it.entries.at + it.entries.len:]
+
+
+def _owned(value: bytes) -> Owned:
+    it = _Owned()
+    _lend(_library.tpm_log_owned, (value,), byref(it))
+    return Owned(_guid(value, it.owner), _cut(value, it.value))
+
+
+def _tables_of(data: bytes, view: _Content) -> Tables:
+    told = _told_each(data, view.tables.entries, _TABLE_BYTES, _library.tpm_log_table, _Table())
+    return Tables(_cut(data, view.tables.name), tuple(Table(_guid(entry, it.guid), it.address) for entry, it in told))
+
+
+def _partitions_of(data: bytes, view: _Content) -> Partitions:
+    whole = view.partitions
+    told = _told_each(data, whole.entries, whole.entry_size, _library.tpm_log_partition, _Partition())
+    return Partitions(_guid(data, whole.disk), tuple(
+        Partition(_guid(entry, it.type), _guid(entry, it.guid), it.first, it.last, it.attributes, _wide(entry, it.name))
+        for entry, it in told))
+
+
+def _firmware_of(data: bytes, view: _Content) -> Firmware:
+    it = view.firmware
+    return Firmware(it.base, it.size, _cut(data, it.name))
+
+
+def _measurement_of(data: bytes, view: _Content) -> Measurement:
+    it = view.measurement
+    return Measurement(it.hash, it.device_type, _cut(data, it.block), _cut(data, it.context))
+
+
+def _evidence_of(data: bytes, view: _Content) -> Evidence:
+    it = view.evidence
+    return Evidence(it.auth_state, it.device_type, it.sub_header_type, it.uid, _nodes(_cut(data, it.path)),
+                    _cut(data, it.sub_header), _cut(data, it.context))
+
+
+_CONTENTS: dict[int, Callable[[bytes, _Content], Content]] = {
+    _VARIABLE: _holding_of,
+    _TEXT: lambda data, view: Text(_cut(data, view.text).decode("utf-8")),
+    _TEXT_UTF16: lambda data, view: Text(_wide(data, view.text)),
+    _VERSION: lambda data, view: Version(_wide(data, view.text)),
+    _VERSION_GUID: lambda data, view: Version(_guid(data, view.text)),
+    _SEPARATOR: lambda data, view: Separator(view.number),
+    _LOCALITY: lambda data, view: Locality(view.number),
+    _IMAGE: lambda data, view: _image_of(data, view.image),
+    _FIRMWARE: _firmware_of,
+    _TABLES: _tables_of,
+    _TAG: lambda data, view: Tag(view.tag.id, _cut(data, view.tag.value)),
+    _PARTITIONS: _partitions_of,
+    _MEASUREMENT: _measurement_of,
+    _EVIDENCE: _evidence_of,
+}
 
 
 class SecureBootState(enum.Enum):

@@ -24,6 +24,18 @@ fn main() {
     tell!(tpm_variable, guid, name, value);
     tell!(tpm_image, address, size, link_address, path);
     tell!(tpm_path_node, r#type, subtype, value);
+    tell!(tpm_firmware, base, size, name);
+    tell!(tpm_tables, name, count, entries);
+    tell!(tpm_tag, id, value);
+    tell!(tpm_partitions, disk, count, entry_size, entries);
+    tell!(tpm_measurement, hash, device_type, block, context);
+    tell!(tpm_evidence, auth_state, device_type, sub_header_type, uid, path, sub_header, context);
+    tell!(tpm_content, variable, holds, text, number, image, firmware, tables, tag, partitions, measurement, evidence);
+    tell!(tpm_partition, r#type, guid, first, last, attributes, name);
+    tell!(tpm_table, guid, address);
+    tell!(tpm_signature_list, r#type, header, count, entry_size, entries);
+    tell!(tpm_owned, owner, value);
+    tell!(tpm_load_option, attributes, description, path, value);
     tell!(tpm_secure_boot, dma_protection_disabled, pk, kek, db, dbx);
     tell!(tpm_attest, signer, nonce, clock, reset_count, restart_count, safe, firmware_version, selections, digest);
     tell!(tpm_signature, scheme, hash, sig, r, s);

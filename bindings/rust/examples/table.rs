@@ -90,6 +90,89 @@ fn tell_events(out: &mut impl Write, log: &[u8]) -> std::io::Result<()> {
 }
 
 // Each record by the name of its type, with its text as JSON escapes it.
+// UTF-16, with U+FFFD for half of a pair.
+fn wide(chars: impl Iterator<Item = char>) -> String {
+    let units = chars.collect::<String>().encode_utf16().collect::<Vec<_>>();
+    text(&units.iter().flat_map(|it| it.to_le_bytes()).collect::<Vec<_>>())
+}
+
+fn nodes<'a>(path: impl Iterator<Item = PathNode<'a>>) -> String {
+    let told: Vec<String> = path.map(|it| format!("{}:{}:{}", it.kind, it.subtype, hex(it.data))).collect();
+    if told.is_empty() { "-".into() } else { told.join(",") }
+}
+
+fn owned(it: Owned) -> String {
+    format!("owned {} {}", text(it.owner), text(it.data))
+}
+
+fn held_lines(it: Held) -> Vec<String> {
+    match it {
+        Held::LoadOption(it) => {
+            let first = format!("option {} {} {}", it.attributes, wide(it.description_chars()), text(it.data));
+            let paths = it.paths().map(|it| format!("path {}", nodes(path_nodes(it))));
+            std::iter::once(first).chain(paths).collect()
+        }
+        Held::BootOrder(it) => {
+            let numbers = it.iter().map(|it| format!(" {it}"));
+            vec![std::iter::once("order".to_string()).chain(numbers).collect()]
+        }
+        Held::Signatures(it) => it.iter().flat_map(|it| {
+            let first = format!("list {} {}", text(it.kind), text(it.header));
+            std::iter::once(first).chain(it.iter().map(owned)).collect::<Vec<_>>()
+        }).collect(),
+        Held::Signature(it) => vec![owned(it)],
+        Held::Byte(it) => vec![format!("byte {it}")],
+        Held::Bytes(_) => vec![],
+    }
+}
+
+fn content_lines(it: Content) -> Vec<String> {
+    match it {
+        Content::Variable(it, holds) => {
+            let first = format!("variable {} {} {}", text(it.guid), wide(it.name_chars()), text(it.value));
+            std::iter::once(first).chain(held_lines(holds)).collect()
+        }
+        Content::Text(it) => vec![format!("text {}", hex(it.chars().collect::<String>().as_bytes()))],
+        Content::Version(it) => vec![format!("version {}", wide(it.chars()))],
+        Content::VersionGuid(it) => vec![format!("version-guid {}", text(it))],
+        Content::Separator(it) => vec![format!("separator {it}")],
+        Content::Locality(it) => vec![format!("locality {it}")],
+        Content::Image(it) => {
+            vec![format!("image {} {} {} {}", it.address, it.size, it.link_address, nodes(it.nodes()))]
+        }
+        Content::Firmware(it) => vec![format!("firmware {} {} {}", it.base, it.size, text(it.name))],
+        Content::Tables(it) => {
+            let tables = it.iter().map(|it| format!("table {} {}", text(it.guid), it.address));
+            std::iter::once(format!("tables {}", text(it.name))).chain(tables).collect()
+        }
+        Content::Tag(id, data) => vec![format!("tag {id} {}", text(data))],
+        Content::Partitions(it) => {
+            let partitions = it.iter().map(|it| {
+                let (kind, guid, name) = (text(it.kind), text(it.guid), wide(it.name_chars()));
+                format!("partition {kind} {guid} {} {} {} {name}", it.first, it.last, it.attributes)
+            });
+            std::iter::once(format!("partitions {}", text(it.disk))).chain(partitions).collect()
+        }
+        Content::Measurement(it) => {
+            vec![format!("measurement {} {} {} {}", it.hash, it.device_type, text(it.block), text(it.context))]
+        }
+        Content::Evidence(it) => {
+            let (state, kind, sub_kind, uid) = (it.auth_state, it.device_type, it.sub_header_type, it.uid);
+            let (path, sub, context) = (nodes(it.nodes()), text(it.sub_header), text(it.context));
+            vec![format!("evidence {state} {kind} {sub_kind} {uid} {path} {sub} {context}")]
+        }
+    }
+}
+
+fn tell_contents(out: &mut impl Write, log: &[u8]) -> std::io::Result<()> {
+    for it in events(log).flatten() {
+        for line in it.content().map_or(vec![], content_lines) {
+            writeln!(out, "{} {line}", it.number)?;
+        }
+    }
+    Ok(())
+}
+
 fn tell_texts(out: &mut impl Write, log: &[u8]) -> std::io::Result<()> {
     for found in events(log) {
         let it = match found {
@@ -238,6 +321,7 @@ fn main() -> std::io::Result<()> {
             "pieces" => registers(out, pieces(words[1]))?,
             "events" => tell_events(out, &std::fs::read(words[1])?)?,
             "texts" => tell_texts(out, &std::fs::read(words[1])?)?,
+            "contents" => tell_contents(out, &std::fs::read(words[1])?)?,
             "boot" => tell_boot(out, &std::fs::read(words[1])?, words[2])?,
             "quote" => match check_quote(&std::fs::read(words[1])?, &unhex(words[2]), bank(words[3])) {
                 Ok(verdict) => writeln!(out, "quote {}", verdict.to_string().trim_start_matches("digest "))?,

@@ -10,6 +10,7 @@ mod buffers;
 extern crate alloc;
 #[doc(hidden)]
 pub mod c;
+mod contents;
 mod logs;
 mod names;
 mod quotes;
@@ -20,9 +21,13 @@ use core::fmt;
 pub use allowed::{allowed_digests, AllowedDigest};
 pub use boots::{secure_boot, SecureBoot, SecureBootFault, SecureBootState, SECURE_BOOT_FAULTS};
 pub use buffers::{build_command, Command, List, Response, Session};
+pub use contents::{
+    BootOrder, Content, Evidence, Firmware, Held, LoadOption, Measurement, Owned, Partition, Partitions, SignatureList,
+    SignatureLists, Table, Tables,
+};
 pub use logs::{
-    check, check_quote, events, replay, Bank, Digest, Event, Events, Expected, Image, MeasuredPart, Nonce, PathNode,
-    Registers, Replay, Required, Text, TypeName, Variable, Verdict,
+    check, check_quote, events, path_nodes, replay, Bank, Digest, Event, Events, Expected, Image, MeasuredPart, Nonce,
+    PathNode, Registers, Replay, Required, Text, TypeName, Variable, Verdict,
 };
 pub use names::{CodeName, Name};
 pub use quotes::{Attest, Policy, Selection, Signature};

@@ -3,8 +3,8 @@ use std::fmt::Write;
 use std::fs;
 use vinjakwe::{
     allowed_digests, changes_nv, check, check_quote, check_version, events, replay, secure_boot, Attest, Bank, CodeName,
-    Device, Expected, Fault, LogFault, MeasuredPart, Nonce, Policy, Refusal, Replay, Required, Room, Selection,
-    Signature, Verdict, BUFFER_BYTES, DEVICE_KEPT_BYTES, NONCE_BYTES,
+    Content, Device, Event, Expected, Fault, Held, LogFault, MeasuredPart, Nonce, Policy, Refusal, Replay, Required,
+    Room, Selection, Signature, Verdict, BUFFER_BYTES, DEVICE_KEPT_BYTES, NONCE_BYTES,
 };
 
 fn read(name: &str) -> Vec<u8> {
@@ -295,6 +295,34 @@ fn images_of_a_log() {
 }
 
 // A line of these lists has of each record what each digest is of, as `"measured":{"sha256":"data"}`.
+#[test]
+fn contents_of_a_log() {
+    let log = read("logs/secure_on.log");
+    let mut secure_boot = None;
+    for event in events(&log).flatten() {
+        match event.content() {
+            Some(Content::Variable(it, Held::Byte(byte))) if it.name_chars().eq("SecureBoot".chars()) => {
+                secure_boot = Some(byte)
+            }
+            _ => {}
+        }
+    }
+    assert_eq!(secure_boot, Some(1));
+    let signatures = read("logs/secure_signatures.log");
+    let lists = events(&signatures).flatten().filter_map(|it| match it.content() {
+        Some(Content::Variable(_, Held::Signatures(lists))) => Some(lists.iter().count()),
+        _ => None,
+    });
+    assert_eq!(lists.sum::<usize>(), 7);
+    let log = read("logs/partitions.log");
+    let first = events(&log).next().unwrap().unwrap();
+    let Some(Content::Partitions(it)) = first.content() else { panic!("no partitions") };
+    let told: Vec<_> = it.iter().map(|it| (it.first, it.last, it.name_chars().collect::<String>())).collect();
+    assert_eq!(told, [(2048, 1050623, "EFI System".into()), (1050624, 4194270, "root".into())]);
+    assert_eq!(Event { kind: 4, data: &[1, 0, 0, 0], ..first }.content(), Some(Content::Separator(1)));
+    assert_eq!(Event { kind: 4, data: &[], ..first }.content(), None);
+}
+
 #[test]
 fn what_was_measured_of_each_log_with_a_list() {
     let logs = format!("{}/../../checks/logs", env!("CARGO_MANIFEST_DIR"));

@@ -1,5 +1,7 @@
 pub mod Allowing
+pub mod Contents
 pub mod Decoding
+pub mod Entries
 pub mod Held
 pub mod HeldReplies
 pub mod Imaging
@@ -8,12 +10,15 @@ pub mod KeptDevices
 pub mod Lending
 pub mod Lengths
 pub mod Lists
+pub mod LoadOptions
 pub mod Parts
 pub mod Placing
 pub mod Quoting
+pub mod Reading
 pub mod Replies
 pub mod Restoring
 pub mod Sealing
+pub mod SignatureLists
 pub mod Signing
 pub mod Starting
 pub mod Steps

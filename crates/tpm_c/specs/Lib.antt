@@ -3,10 +3,13 @@ pub mod Builds
 pub mod Callers
 pub mod Calls
 pub mod CommandViews
+pub mod Contents
 pub mod Devices
+pub mod Entries
 pub mod Framers
 pub mod Images
 pub mod KeptDevices
+pub mod LoadOptions
 pub mod LogEvents
 pub mod LogPieces
 pub mod Logs
@@ -19,6 +22,7 @@ pub mod ResponseViews
 pub mod Rooms
 pub mod SecureBoots
 pub mod Selections
+pub mod SignatureLists
 pub mod Signatures
 pub mod Variables
 pub mod Vouched

@@ -11,7 +11,7 @@ use arrayvec::ArrayVec;
 use tpm_event_data::{DeviceNode, Event, ImageLoad, device_path};
 
 /// An image was told.
-const IMAGE: u32 = 43;
+pub(crate) const IMAGE: u32 = 43;
 
 /// A node was told.
 const PATH_NODE: u32 = 44;
@@ -36,7 +36,7 @@ pub struct TpmPathNode {
     pub value: TpmPart,
 }
 
-fn image_view(image: &ImageLoad<'_>) -> TpmImage
+pub(crate) fn image_view(image: &ImageLoad<'_>) -> TpmImage
     ensures { result ≡ image_view (as_image image.now) }
 {
     TpmImage {

@@ -8,12 +8,15 @@ mod builder;
 mod caller;
 mod code_name;
 mod command;
+mod content;
 mod device;
+mod entry;
 mod framer;
 mod handed;
 mod hash;
 mod image;
 mod kept;
+mod load_option;
 mod log;
 mod log_event;
 mod log_pieces;
@@ -27,6 +30,7 @@ mod rooms;
 mod secure_boot;
 mod selection;
 mod signature;
+mod signature_list;
 mod variable;
 mod vouched;
 
@@ -39,7 +43,12 @@ pub use caller::{
 };
 pub use code_name::tpm_code_name;
 pub use command::{TpmCommandAreas, TpmCommandSession, tpm_command_cut, tpm_command_decode};
+pub use content::{
+    TpmContent, TpmEvidence, TpmFirmware, TpmMeasurement, TpmPartitions, TpmTables, TpmTag,
+    tpm_log_event_content,
+};
 pub use device::{tpm_device_execute, tpm_device_init, tpm_device_power_cycle};
+pub use entry::{TpmPartition, TpmTable, tpm_log_partition, tpm_log_table};
 pub use framer::{tpm_framer_frame, tpm_framer_init, tpm_framer_next, tpm_framer_push};
 pub use hash::tpm_hash;
 pub use image::{TpmImage, TpmPathNode, tpm_log_image, tpm_log_path_node};
@@ -47,6 +56,7 @@ pub use kept::{
     TpmCounter, tpm_device_changes_nv, tpm_device_counter, tpm_device_counters,
     tpm_device_greatest, tpm_device_keep, tpm_device_restore, tpm_device_session_hash,
 };
+pub use load_option::{TpmLoadOption, tpm_log_device_path, tpm_log_load_option};
 pub use log::tpm_log_replay;
 pub use log_event::{TpmLogDigest, TpmLogEvent, TpmLogPlace, tpm_log_event};
 pub use log_pieces::{tpm_log_replay_end, tpm_log_replay_feed, tpm_log_replay_init};
@@ -66,5 +76,6 @@ pub use rooms::{
 pub use secure_boot::{TpmSecureBoot, tpm_log_secure_boot};
 pub use selection::tpm_selection;
 pub use signature::{TpmSignature, tpm_signature_decode};
+pub use signature_list::{TpmOwned, TpmSignatureList, tpm_log_owned, tpm_log_signature_list};
 pub use variable::{TpmVariable, tpm_log_variable};
 pub use vouched::tpm_log_vouched;

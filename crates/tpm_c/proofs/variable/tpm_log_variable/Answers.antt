@@ -1,4 +1,4 @@
-use Rattle.std.proofs.Common.{length, refl, subst}
+use Rattle.std.proofs.Common.{refl, subst}
 use Rattle.tpm_event_data.specs.EventData.{VariableData}
 use Rattle.tpm_c.specs.Variables.{variable_view, IsVariableTold}
 use Rattle.tpm_c.proofs.Varying.{views}
@@ -9,5 +9,6 @@ returns-in-Some c =
     let bytes = c.args.bytes.now in
     let found = c.in-Some.variable in
     let v : VariableData = record { guid = found.guid.now; name = found.name.now; value = found.value.now } in
-    subst (λ o. IsVariableTold o bytes (record { answer = 33; old = c.args.view.now; new = variable_view (length bytes) v })) c.in-Some.ensures
-    (refl, views c.args.kind bytes v c.in-Some.ensures, refl)
+    rw c.variable_view.ensures
+    (subst (λ o. IsVariableTold o bytes (record { answer = 33; old = c.args.view.now; new = variable_view v })) c.in-Some.ensures
+    (refl, views c.args.kind bytes v c.in-Some.ensures, refl))
