@@ -11,7 +11,7 @@ use Rattle.tpm_model.specs.Counters.{counter_in, value_of, value_at, nv_memory}
 use Rattle.tpm_model.specs.Kept.{IsFair, kept_memory, restored}
 use Rattle.tpm_model.specs.Present.{Present, present}
 use Rattle.tpm_model.specs.Answers.{Done, outcome, answer, next}
-use Rattle.tpm_model.specs.Runs.{Event, Given, Cycled, after}
+use Rattle.tpm_model.specs.Runs.{Stimulus, Given, Cycled, after}
 use Rattle.tpm_model.specs.Premises.{code_in, HasSessionMac}
 use Rattle.tpm_model.specs.Lives.{Life, origin_behind, Execution, executions_of, executions, kept_executions, WasAccepted}
 use Rattle.tpm_model.specs.Lives.{Increments, value_after, NoncesDifferOver, NoCollisionOver}
@@ -45,7 +45,7 @@ are-append (c ∷ cs) ds (x ∷ xs) ys a b = (a.0, are-append cs ds xs ys a.1 b)
 are-append [] ds (x ∷ xs) ys a b = absurd a
 are-append (c ∷ cs) ds [] ys a b = absurd a
 
-calls_are : (o : Origin) (h : History) (old new : Device) (es : List Event) (calls : List Call) → Stands o h old → Calls old es calls new
+calls_are : (o : Origin) (h : History) (old new : Device) (es : List Stimulus) (calls : List Call) → Stands o h old → Calls old es calls new
     → AreOf calls (executions_of o h es) × Stands o (after o h es) new
 calls_are o h old new [] calls st (none, same) = (subst (λ (cs : List Call). AreOf cs []) (sym none) tt, subst (λ (d : Device). Stands o h d) same st)
 calls_are o h old new (Given bytes n ∷ es) calls st (response, d, later, by, is, others) =
