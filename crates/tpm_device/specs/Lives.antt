@@ -33,14 +33,14 @@ pub record IsMadeOf (owner bytes : List ℕ) (d : Device) : Type 0 where
 -- a life of a device: it is given the kept stimuli, is kept as these bytes, and is given the lost stimuli
 pub record Lived (life : Life) : Type 0 where
   pub old : Device
-  pub behind : Device
+  pub put_away : Device
   pub last : Device
   pub kept : List Call
   pub lost : List Call
   pub bytes : List ℕ
-  pub kept_by : Calls old life.kept kept behind
-  pub is_kept : IsKeptAs behind bytes
-  pub lost_by : Calls behind life.lost lost last
+  pub kept_by : Calls old life.kept kept put_away
+  pub is_kept : IsKeptAs put_away bytes
+  pub lost_by : Calls put_away life.lost lost last
 
 -- A device of which `first` holds is given the stimuli of the first life. What is made of the same owner's value and of
 -- the bytes of a life is given those of the next. `all` are the calls of all lives, `kept` those of their kept stimuli.

@@ -7,7 +7,7 @@ use Rattle.tpm_model.specs.Runs.{Stimulus, Given, Cycled}
 use Rattle.tpm_device.specs.declared.device.Device.{Device}
 use Rattle.tpm_device.specs.Stands.{holds, Stands}
 
--- a call of `execute`, with the device before it and behind it
+-- a call of `execute`, with the device before it and after it
 pub record Call : Type 0 where
   pub old : Device
   pub bytes : List ℕ

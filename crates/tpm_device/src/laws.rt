@@ -90,7 +90,7 @@ pub fn no_replay_over_lives()
 {}
 
 /// No counter goes back over a device's lives: where NV memory was fair at the first origin, and an index has a value
-/// on the device behind a kept call, an increment that is done in a later kept call leaves a greater one, in the same
+/// on the device after a kept call, an increment that is done in a later kept call leaves a greater one, in the same
 /// life or in another. Each call whose response was handed out is a kept one. So it is for a value at the first origin;
 /// where the index had none there, each leaves more than the first origin's greatest value.
 pub fn no_counter_goes_back_over_lives()

@@ -21,7 +21,7 @@ use Rattle.tpm_model.specs.Premises.{IsAccepted, HasSessionMac, nonces, AreApart
 use Rattle.tpm_hmac.specs.Among.{IsAmong}
 use Rattle.tpm_model.specs.Premises.{Keyed, keyed, text_checked, texts_checked, AreFree, text_replied, texts_replied}
 use Rattle.tpm_model.specs.Premises.{Opening, texts_opened}
-use Rattle.tpm_model.specs.Lives.{Life, executed, origin_behind, Execution, executions_of, executions}
+use Rattle.tpm_model.specs.Lives.{Life, executed, origin_after, Execution, executions_of, executions}
 use Rattle.tpm_model.specs.Lives.{kept_executions, reply_to, WasAccepted, Increments, value_after, NoncesDifferOver, texts_over}
 use Rattle.tpm_model.specs.Lives.{NoCollisionOver, IsOfCallersOver}
 use Rattle.tpm_model.proofs.Fair.{fair_after}
@@ -63,7 +63,7 @@ pub both_cut : {A : Type 0} (all front middle between behind : List A) (x y : A)
 both_cut all front middle between behind x y e f =
     e ∙ ap (λ l. front ++ x ∷ l) f ∙ sym (append_assoc front (x ∷ between) (y ∷ behind))
 
--- an execution in a run: the stimuli before it and behind it, and what is executed behind it
+-- an execution in a run: the stimuli before it and behind it, and what is executed after it
 record InRun (o : Origin) (h : History) (es : List Stimulus) (x : Execution) (ys : List Execution) : Type 0 where
   before : List Stimulus
   behind : List Stimulus
@@ -112,11 +112,11 @@ holds_at : (P : ℕ → Option ℕ → Type 0) → IsKept P → (o : Origin) (i 
     → kept_executions o ls ≡ xs ++ x ∷ ys → HoldsOf P i o.nv → HoldsOf P i (nv_memory x.origin x.history)
 holds_at P k o i [] xs ys x e f = absurd (nothing xs ys x e)
 holds_at P k o i (l ∷ ls) xs ys x e f =
-    elim (cut (executions_of o [] l.kept) (kept_executions (origin_behind o l) ls) xs ys x e) [
+    elim (cut (executions_of o [] l.kept) (kept_executions (origin_after o l) ls) xs ys x e) [
       | inl c ↦
           let p = place o [] l.kept xs c.0 x c.1 in
           subst (λ (y : Execution). HoldsOf P i (nv_memory y.origin y.history)) (sym p.is) (kept_along P k o i p.before [] f)
-      | inr c ↦ holds_at P k (origin_behind o l) i ls c.0 ys x c.1 (kept_along P k o i l.kept [] f)
+      | inr c ↦ holds_at P k (origin_after o l) i ls c.0 ys x c.1 (kept_along P k o i l.kept [] f)
     ]
 
 -- An index that has a value after a kept stimulus is given a greater one by what comes.
@@ -124,7 +124,7 @@ floor_later : (o : Origin) (ls : List Life) (xs ys zs : List Execution) (x y : E
     → kept_executions o ls ≡ xs ++ x ∷ (ys ++ y ∷ zs) → value_after x i ≡ Some w → HoldsOf (IsFloor w) i (nv_memory y.origin y.history)
 floor_later o [] xs ys zs x y i w fair e has = absurd (nothing xs (ys ++ y ∷ zs) x e)
 floor_later o (l ∷ ls) xs ys zs x y i w fair e has =
-    let later = origin_behind o l in
+    let later = origin_after o l in
     elim (cut (executions_of o [] l.kept) (kept_executions later ls) xs (ys ++ y ∷ zs) x e) [
       | inl c ↦
           let p = place o [] l.kept xs c.0 x c.1 in
@@ -206,7 +206,7 @@ place_over o [] xs ys x e = absurd (nothing xs ys x e)
 place_over o (l ∷ ls) xs ys x e =
     let es = executed l in
     let others = flat_map executed ls in
-    let later = origin_behind o l in
+    let later = origin_after o l in
     elim (cut (executions_of o [] es) (executions later ls) xs ys x e) [
       | inl c ↦
           let p = place o [] es xs c.0 x c.1 in
@@ -278,7 +278,7 @@ twice_by o [] xs ys zs x y c a e differ free two first second = nothing xs (ys +
 twice_by o (l ∷ ls) xs ys zs x y c a e differ free two first second =
     let es = executed l in
     let others = flat_map executed ls in
-    let later = origin_behind o l in
+    let later = origin_after o l in
     let apart : AreApart (nonces es ++ nonces others) = subst AreApart (nonces-append es others) differ in
     let texts = texts_checked o [] es in
     elim (cut (executions_of o [] es) (executions later ls) xs (ys ++ y ∷ zs) x e) [

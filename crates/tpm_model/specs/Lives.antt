@@ -15,7 +15,7 @@ use Rattle.tpm_model.specs.Premises.{IsSealedBy, SealsDiffer, texts_replied, Ope
 use Rattle.tpm_hmac.specs.Among.{IsAmong}
 
 -- A run of a device, until it loses its power. Each response that was handed out is to one of the kept stimuli, and the
--- next life begins from the NV memory after them. The lost stimuli were executed behind them, and their responses were
+-- next life begins from the NV memory after them. The lost stimuli were executed after them, and their responses were
 -- not handed out.
 pub record Life : Type 0 where
   pub kept : List Stimulus
@@ -26,8 +26,8 @@ abbrev pub executed : Life → List Stimulus
 executed life = life.kept ++ life.lost
 
 -- of the device that is made for the next life: the same owner's value, and the NV memory after the kept stimuli
-abbrev pub origin_behind : Origin → Life → Origin
-origin_behind o life = record o { nv = nv_memory o (after o [] life.kept) }
+abbrev pub origin_after : Origin → Life → Origin
+origin_after o life = record o { nv = nv_memory o (after o [] life.kept) }
 
 -- ---- the buffers that were executed
 
@@ -48,7 +48,7 @@ executions_of o h (Cycled ∷ es) = executions_of o (PowerCycle ∷ h) es
 -- those of one part of each life
 abbrev pub executions_in : (Life → List Stimulus) → Origin → List Life → List Execution
 executions_in part o [] = []
-executions_in part o (life ∷ lives) = executions_of o [] (part life) ++ executions_in part (origin_behind o life) lives
+executions_in part o (life ∷ lives) = executions_of o [] (part life) ++ executions_in part (origin_after o life) lives
 
 -- all of them
 abbrev pub executions : Origin → List Life → List Execution
@@ -84,7 +84,7 @@ NoncesDifferOver lives = NoncesDiffer (flat_map executed lives)
 -- the texts of all lives, by those of a run
 abbrev pub texts_over : (Origin → History → List Stimulus → List Keyed) → Origin → List Life → List Keyed
 texts_over texts o [] = []
-texts_over texts o (life ∷ lives) = texts o [] (executed life) ++ texts_over texts (origin_behind o life) lives
+texts_over texts o (life ∷ lives) = texts o [] (executed life) ++ texts_over texts (origin_after o life) lives
 
 -- No two different texts whose HMACs are checked in all lives have the same HMAC.
 abbrev pub NoCollisionOver : Origin → List Life → Type 0

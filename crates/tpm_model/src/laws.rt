@@ -147,7 +147,7 @@ pub fn nv_memory_stays_fair()
 
 /// A device that is kept: what is made of the owner's value and of the bytes of a device's NV memory is what a
 /// power cycle leaves of that device. So making it again is one power cycle of a run: the answers and the
-/// history go on behind it, and what holds of every run holds across it.
+/// history go on after it, and what holds of every run holds across it.
 pub fn restored_is_cycled()
     ensures stands { (o : Origin) (h : History) (nv : NvMemory) (bytes : List ℕ) →
         Spells kept_memory (nv_memory o h) bytes →
