@@ -5,7 +5,7 @@ use arrayvec::ArrayVec;
 use std::io;
 use tpm_buffer::{decode_command, decode_response, encode_command};
 use tpm_commands::{Command, CommandBody, Response};
-use tpm_stream::{Framer, Status};
+use tpm_stream::{Framer, FramerState};
 use tpm_types::{CommandCode, StartupType};
 
 /// A command is a value; its bytes are its only spelling.
@@ -49,9 +49,9 @@ pub fn frames(rt: &impl Print) -> io::Result<()> {
         &[0x80, 0x01, 0x00, 0x00][..],
         &[0x00, 0x0a, 0x00, 0x00, 0x01, 0x00, 0x80][..],
     ] {
-        let (taken, status) = framer.push(piece);
+        let (taken, state) = framer.push(piece);
         println!(rt; "{taken} bytes taken")?;
-        if status == Status::Ready {
+        if state == FramerState::Ready {
             if let Some(frame) = framer.frame() {
                 println!(rt; "a frame of {} bytes", frame.len())?;
             }

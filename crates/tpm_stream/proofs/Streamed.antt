@@ -10,11 +10,11 @@ use Rattle.std.specs.List.{concat}
 use Rattle.std.specs.Prelude.{All}
 use Rattle.tpm_wire.specs.declared.refusal.Refusal.{Refusal}
 use Rattle.tpm_wire.specs.Sources.{OfBytes}
-use Rattle.tpm_stream.specs.declared.framer.Status.TheVariants.{More, Ready, Broken}
-use Rattle.tpm_stream.specs.declared.framer.Status.{Status}
+use Rattle.tpm_stream.specs.declared.framer.FramerState.TheVariants.{More, Ready, Broken}
+use Rattle.tpm_stream.specs.declared.framer.FramerState.{FramerState}
 use Rattle.tpm_stream.specs.declared.reader.ReadFault.TheVariants.{Device, EndInside, Broken as BrokenInput}
 use Rattle.tpm_stream.specs.declared.reader.ReadFault.{ReadFault}
-use Rattle.tpm_stream.specs.Frames.{stated, IsFrame, BeginsNoFrame, IsBroken, IsPart, IsStatus, Frames, Push, Pushes}
+use Rattle.tpm_stream.specs.Frames.{stated, IsFrame, BeginsNoFrame, IsBroken, IsPart, HasState, Frames, Push, Pushes}
 use Rattle.tpm_stream.specs.Frames.{Advances, bad_size}
 use Rattle.tpm_stream.specs.Reads.{ReadsFrame, IsAnswer}
 use Rattle.tpm_stream.specs.Streams.{Framing, GivenPiece, GivenPieces, ReadInTurn, of_new}
@@ -147,19 +147,19 @@ no_broken_frame bytes b is =
     ]
 
 -- a broken framer takes nothing
-broken_takes_none : (held piece new : List ℕ) (k : ℕ) (status : Status) → IsBroken held → Pushes (push held piece new k status) → (k ≡ 0) × (new ≡ held)
-broken_takes_none held piece new zero status b p = (refl, p.held ∙ append-nil held)
-broken_takes_none held piece new (suc k) status b p = absurd ((p.fewest 0 (omega arith)).not_broken (subst IsBroken (sym (append-nil held)) b))
+broken_takes_none : (held piece new : List ℕ) (k : ℕ) (state : FramerState) → IsBroken held → Pushes (push held piece new k state) → (k ≡ 0) × (new ≡ held)
+broken_takes_none held piece new zero state b p = (refl, p.held ∙ append-nil held)
+broken_takes_none held piece new (suc k) state b p = absurd ((p.fewest 0 (omega arith)).not_broken (subst IsBroken (sym (append-nil held)) b))
 
-answers_broken : (new : List ℕ) (status : Status) → IsBroken new → IsStatus new status → status ≡ Broken bad_size
+answers_broken : (new : List ℕ) (state : FramerState) → IsBroken new → HasState new state → state ≡ Broken bad_size
 answers_broken new More b is = absurd (is.not_broken b)
 answers_broken new Ready b is = absurd (no_broken_frame new b is)
 answers_broken new (Broken e) b is = ap Broken is.1
 
-pub push_broken : (p : Push) → IsBroken p.old → Pushes p → (p.taken ≡ 0) × (p.new ≡ p.old) × (p.status ≡ Broken bad_size)
+pub push_broken : (p : Push) → IsBroken p.old → Pushes p → (p.taken ≡ 0) × (p.new ≡ p.old) × (p.state ≡ Broken bad_size)
 push_broken p b pushed =
-    let none = broken_takes_none p.old p.piece p.new p.taken p.status b pushed in
-    (none.0, none.1, answers_broken p.new p.status (subst IsBroken (sym none.1) b) pushed.answer)
+    let none = broken_takes_none p.old p.piece p.new p.taken p.state b pushed in
+    (none.0, none.1, answers_broken p.new p.state (subst IsBroken (sym none.1) b) pushed.answer)
 
 pub next_broken : (held new : List ℕ) → IsBroken held → Advances held new → new ≡ held
 next_broken held new b a = a.other (no_broken_frame held b)
@@ -171,13 +171,13 @@ record Cut (stream : List ℕ) (frames : List (List ℕ)) (new left : List ℕ) 
   over : (IsPart new × (left ≡ [])) ⊎ IsBroken new
 
 -- what a push took and what it left
-pushed_whole : (held piece new : List ℕ) (k : ℕ) (status : Status) → Pushes (push held piece new k status) → held ++ piece ≡ new ++ drop k piece
-pushed_whole held piece new k status p =
+pushed_whole : (held piece new : List ℕ) (k : ℕ) (state : FramerState) → Pushes (push held piece new k state) → held ++ piece ≡ new ++ drop k piece
+pushed_whole held piece new k state p =
     ap (λ (r : List ℕ). held ++ r) (sym (take-append-drop k piece))
     ∙ sym (append_assoc held (take k piece) (drop k piece))
     ∙ ap (λ (r : List ℕ). r ++ drop k piece) (sym p.held)
 
-piece_end : (held piece new left : List ℕ) (k : ℕ) (status : Status) → Pushes (push held piece new k status) → status ≢ Ready
+piece_end : (held piece new left : List ℕ) (k : ℕ) (state : FramerState) → Pushes (push held piece new k state) → state ≢ Ready
     → left ≡ drop k piece → Cut (held ++ piece) [] new left
 piece_end held piece new left k More p unready is = record {
   whole = pushed_whole held piece new k More p ∙ ap (λ (r : List ℕ). new ++ r) (sym is);
@@ -299,7 +299,7 @@ rest_of_pieces pieces frames held left g = (given_pieces pieces [] frames held l
 -- ---- a framer goes on to the end of the pieces
 
 abbrev SomePush : List ℕ → List ℕ → Type 0
-SomePush held piece = (new : List ℕ) × (k : ℕ) × (status : Status) × Pushes (push held piece new k status)
+SomePush held piece = (new : List ℕ) × (k : ℕ) × (state : FramerState) × Pushes (push held piece new k state)
 
 push_part : (held piece : List ℕ) → IsPart held → SomePush held piece
 push_part held piece part =
@@ -330,7 +330,7 @@ some_taken : (held piece frame : List ℕ) (k : ℕ) → IsPart held → Pushes 
 some_taken held piece frame zero part p = absurd (part.no_frame frame [] p.answer (sym (p.held ∙ append-nil held) ∙ sym (append-nil frame)))
 some_taken held piece frame (suc k) part p = omega arith
 
-after_push : (held piece new : List ℕ) (k : ℕ) (status : Status) → IsPart held → Pushes (push held piece new k status)
+after_push : (held piece new : List ℕ) (k : ℕ) (state : FramerState) → IsPart held → Pushes (push held piece new k state)
     → ((k : ℕ) → 0 < k → k ≤ length piece → SomePiece [] (drop k piece)) → SomePiece held piece
 after_push held piece new k More part p go = ([], new, drop k piece, (k, More, p, (λ e. cc), refl))
 after_push held piece new k (Broken e) part p go = ([], new, drop k piece, (k, Broken e, p, (λ e. cc), refl))
