@@ -42,7 +42,7 @@ pub fn refused(rt: &impl Print) -> io::Result<()> {
     }
 }
 
-/// A stream is cut into its buffers, in whatever pieces it comes.
+/// A stream is split into its buffers, in whatever pieces it comes.
 pub fn frames(rt: &impl Print) -> io::Result<()> {
     let mut framer = Framer::new();
     for piece in [

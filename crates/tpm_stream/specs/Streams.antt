@@ -1,4 +1,4 @@
--- What comes of a stream that is cut into pieces, and of one that is read to its end.
+-- What comes of a stream in pieces, and of one that is read to its end.
 use Rattle.std.specs.Prelude.{◌≡◌, ◌≢◌, ℕ, List, [], ◌∷◌, ◌++◌, drop, Option, Some, Result, Ok}
 use Rattle.arrayvec.specs.ArrayVec.{ArrayVec}
 use Rattle.tpm_stream.specs.declared.framer.FramerState.TheVariants.{Ready}

@@ -101,7 +101,7 @@ pub enum FramerState {
     Broken(Refusal),
 }
 
-/// Cuts a stream that comes in pieces into its frames: buffers of 10 to 4,096 bytes that state their size in their
+/// Splits a stream that comes in pieces into its frames: buffers of 10 to 4,096 bytes that state their size in their
 /// third to sixth byte (Part 1, "Command/Response Structure"). It looks at the size alone, not at the tag.
 ///
 /// A framer at a refused size is broken, and stays so.

@@ -24,7 +24,7 @@ pub fn frames_of_a_stream()
         → Frames (frame ++ stream) (frame ∷ frames) rest }
 {}
 
-/// However a stream is cut into pieces, what a new framer gives of them are its frames. The framer takes all bytes but
+/// In whatever pieces a stream comes, what a new framer gives of them are its frames. The framer takes all bytes but
 /// those behind a size that no frame has.
 pub fn frames_of_pieces()
     ensures some { (pieces : List (List ℕ))
@@ -33,7 +33,7 @@ pub fn frames_of_pieces()
     ensures frames { (pieces frames : List (List ℕ)) (held left : List ℕ)
         → GivenPieces (of_new held left) pieces frames
         → Frames (concat pieces) frames (held ++ left) }
-    ensures cut { (pieces others frames found : List (List ℕ)) (held left kept unused : List ℕ)
+    ensures split { (pieces others frames found : List (List ℕ)) (held left kept unused : List ℕ)
         → concat pieces ≡ concat others
         → GivenPieces (of_new held left) pieces frames
         → GivenPieces (of_new kept unused) others found
