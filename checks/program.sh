@@ -148,6 +148,28 @@ else
     skip "$name" "the header of tpm2-tss is not there"
 fi
 
+# Each response code in its headers has the name there.
+common=/usr/include/tss2/tss2_common.h
+name="each response code of tpm2-tss has its name"
+if [ -r "$header" ] && [ -r "$common" ]; then
+    {
+        sed -n -e 's/^#define TPM2_RC_\([A-Z_]*\) *((TPM2_RC) *0x0\([01][0E]\)).*/TPM_RC_\1 0x\2/p' \
+            -e 's/^#define TPM2_RC_\([A-Z0-9_]*\) .*(TPM2_RC_VER1 + 0x0\(..\)).*/TPM_RC_\1 0x1\2/p' \
+            -e 's/^#define TPM2_RC_\([A-Z0-9_]*\) .*(TPM2_RC_FMT1 + 0x0\(..\)).*/TPM_RC_\1 0x80+0x\2/p' \
+            -e 's/^#define TPM2_RC_\([A-Z0-9_]*\) .*(TPM2_RC_WARN + 0x0\(..\)).*/TPM_RC_\1 0x9\2/p' "$header" |
+            grep -v -e '^TPM_RC_MAX_FM0' -e '^TPM_RC_H '
+        sed -n -e 's/^#define TSS2_\([A-Z_]*\)_RC_LAYER .*(\([1-9][0-9]*\))$/TSS2_\1_RC_LAYER \2*65536+1/p' \
+            -e 's/^#define \(TSS2_BASE_RC_[A-Z_]*\) *\([0-9]*\)U.*/\1 10*65536+\2/p' "$common"
+    } >"$room/codes"
+    while read -r word number; do
+        ./tpmtool explain "$(printf %x $(($number)))" | grep -q "^$word: " || echo "$word $number"
+    done <"$room/codes" >"$room/wrong" 2>&1
+    [ "$(wc -l <"$room/codes")" -ge 158 ] || wc -l "$room/codes" >>"$room/wrong"
+    if [ -s "$room/wrong" ]; then fail "$name" "$(cat "$room/wrong")"; else pass "$name"; fi
+else
+    skip "$name" "the headers of tpm2-tss are not there"
+fi
+
 # feeds N: N line feeds.
 feeds() {
     head -c "$1" /dev/zero | tr '\0' '\n'
