@@ -379,7 +379,7 @@ python_wheel() {
 # wheel_maker: a python3 that makes wheels without a network.
 wheel_maker() {
     for maker in python3 /usr/bin/python3; do
-        "$maker" -c 'import pip, setuptools, wheel' 2>/dev/null && return
+        "$maker" -c 'import setuptools, wheel, pip' 2>/dev/null && return
     done
     return 1
 }
