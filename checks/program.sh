@@ -63,15 +63,15 @@ cases checks/show.txt
 cases checks/fields.txt
 cases checks/captures.txt
 # What the cases of JSON have is JSON.
-if python3 -m json.tool --help >"$room/out" 2>&1; then
-    sed -n 's/^> {/{/p' checks/captures.txt >"$room/objects"
-    while read -r object; do
-        printf '%s\n' "$object" | python3 -m json.tool >"$room/out" || echo "$object"
-    done <"$room/objects" >"$room/refused" 2>&1
-    name="each object of a frame is JSON"
-    if [ -s "$room/refused" ]; then fail "$name" "$(cat "$room/refused")"; else pass "$name"; fi
+name="each object of a frame is JSON"
+sed -n 's/^> {/{/p' checks/captures.txt >"$room/objects"
+if command -v python3 >/dev/null 2>&1; then
+    holds "$name" python3 -c 'if True:
+        import json, sys
+        for line in open(sys.argv[1]):
+            json.loads(line)' "$room/objects"
 else
-    skip "each object of a frame is JSON" "python3 is not there"
+    skip "$name" "python3 is not there"
 fi
 # The NV memory of devices, whose bytes are those of Python's struct and hashlib.
 if python3 -c pass 2>/dev/null; then
