@@ -95,14 +95,14 @@ ask_quotes() {
 # ask_lists: of each log that has a list of lines a quote of what it extends, beside the list of its own digests, one in
 # which the first of SHA-256 is another, and one with a register more, as checks/logs/allowed.py has them.
 ask_lists() {
-    mkdir "$room/lists"
+    mkdir "$room/lists" && begin_python || return
     for events in checks/logs/*.events; do
         log=${events%.events}
         list=$room/lists/${log##*/}
-        python3 checks/logs/allowed.py lists "$events" >"$list"
+        by_python checks/logs/allowed.py lists "$events" >"$list"
         grep -q '^sha256' "$list" || continue
-        named=$(python3 checks/logs/allowed.py registers "$list")
-        bytes=$(python3 checks/quotes/made.py "$log.registers" 6e6f "$named" | xxd -p | tr -d '\n')
+        named=$(by_python checks/logs/allowed.py registers "$list")
+        bytes=$(by_python checks/quotes/made.py "$log.registers" 6e6f "$named" | xxd -p | tr -d '\n')
         { echo "# others" && awk '{ of = $1 " " $2 } of in first { next } { first[of] = $3 }
             $1 == "sha256" { print of, "00" substr($3, 3) " words # and a comment" }' "$list"; } >"$list.others"
         { cat "$list" && echo "sha384 13 $(zeros 48)"; } >"$list.more"
@@ -110,7 +110,7 @@ ask_lists() {
             echo "attest $log.log $bytes 6e6f any sha256 $asked" >>"$table"
         done
         echo matches >>"$table.wanted"
-        python3 checks/logs/allowed.py told "$events" "$list.others" | sort -s -n -k 5,5 | head -n 1 |
+        by_python checks/logs/allowed.py told "$events" "$list.others" | sort -s -n -k 5,5 | head -n 1 |
             cut -d ' ' -f 1-5 >>"$table.wanted"
         echo "lacks sha384 13" >>"$table.wanted"
     done
@@ -395,7 +395,7 @@ python_wheel() {
 # wheel_maker: a python3 that makes wheels without a network.
 wheel_maker() {
     for maker in python3 /usr/bin/python3; do
-        "$maker" -c 'import pip, setuptools, wheel' 2>/dev/null && return
+        "$maker" -c 'import setuptools, wheel, pip' 2>/dev/null && return
     done
     return 1
 }

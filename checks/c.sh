@@ -1,5 +1,5 @@
 #!/bin/sh
-# The library for C: the archive of crate tpm_c, built by both backends, with the header and the programs in examples/.
+# The library for C: the archives of crate tpm_c by both backends, with the header and the programs in examples/.
 # What they print is compared with `tpmtool run`, with the rows and the cases in the files beside this one, with the
 # lists of checks/logs and with what the program of crate tpm_examples writes of its session.
 
@@ -8,16 +8,11 @@
 . checks/tables.sh
 want_program
 
-archive=crates/tpm_c/out/libtpm_c.a
+archive=crates/tpm_c/out/llvm/libtpm_c.a
 
 # How many bytes of stack a program with a device has, by LLVM and by the toolchain's own compiler: multiples of 1,024.
 llvm_stack=8192
 rattle_stack=12288
-
-# built BACKEND: the archive by this backend, which is kept for ./install, too.
-built() {
-    compiled tpm_c "$1" && mkdir -p "crates/tpm_c/out/$1" && cp "$archive" "crates/tpm_c/out/$1/libtpm_c.a"
-}
 
 # undefined: the names that the archive needs and does not define, in a line.
 undefined() {
@@ -299,12 +294,12 @@ same_vouched() {
 # of each register is another, and the others have another register, too: what checks/logs/allowed.py says of them.
 same_allowed() {
     for events in checks/logs/*.events; do
-        python3 checks/logs/allowed.py lists "$events" >"$room/list"
+        by_python checks/logs/allowed.py lists "$events" >"$room/list"
         [ -s "$room/list" ] || continue
         awk '{ of = $1 " " $2 } !(of in first) { first[of] = $3; print of, "00" substr($3, 3), "other"; next }
             { print $1, $2 == 0 ? 1 : 0, $3; print; print "# none" }' "$room/list" >"$room/others"
         for list in list others; do
-            python3 checks/logs/allowed.py told "$events" "$room/$list" >"$room/out.wanted"
+            by_python checks/logs/allowed.py told "$events" "$room/$list" >"$room/out.wanted"
             if grep -q '^unknown' "$room/out.wanted"; then wanted=1; else wanted=0; fi
             "$room/attest" --allowed "${events%.events}.log" "$room/$list" >"$room/out"
             [ $? -eq "$wanted" ] && cmp "$room/out" "$room/out.wanted" || { echo "$events, $list" && return 1; }
@@ -668,7 +663,7 @@ if [ -z "$compiler" ]; then
     skip "the library for C" "no C compiler was found"
 elif ! command -v nm >/dev/null 2>&1 || ! command -v xxd >/dev/null 2>&1; then
     skip "the library for C" "there is no nm or no xxd"
-elif ! checked tpm_c || ! built llvm; then
+elif ! archives; then
     fail "the library for C" "it isn't built: $(tail -n 3 "$room/lib")"
 else
     write_hundred
@@ -713,7 +708,7 @@ else
     holds "quotes as they were signed, beside their logs through C" same_attests
     holds "quotes that are changed at random through C" changed_quotes
     holds "what quotes vouch for through C" same_vouched
-    if command -v python3 >/dev/null 2>&1; then
+    if command -v python3 >/dev/null 2>&1 && begin_python; then
         holds "a list of digests beside the logs through C" same_allowed
     else
         skip "a list of digests beside the logs through C" "there is no python3"
@@ -737,16 +732,13 @@ else
         skip "a C program without a C library, and small stacks" "they are for Linux on x86-64"
     else
         on_small_stacks llvm $llvm_stack
-        if built rattle; then
-            holds "a C program without a C library gives the bytes of tpmtool" freestanding
-            on_small_stacks rattle $rattle_stack
-            if command -v python3 >/dev/null 2>&1; then
-                holds "each call through C has room on a small stack" on_stack
-            else
-                skip "each call through C has room on a small stack" "there is no python3"
-            fi
+        archive=crates/tpm_c/out/rattle/libtpm_c.a
+        holds "a C program without a C library gives the bytes of tpmtool" freestanding
+        on_small_stacks rattle $rattle_stack
+        if command -v python3 >/dev/null 2>&1; then
+            holds "each call through C has room on a small stack" on_stack
         else
-            fail "a C program without a C library" "the archive isn't built: $(tail -n 3 "$room/lib")"
+            skip "each call through C has room on a small stack" "there is no python3"
         fi
     fi
 fi

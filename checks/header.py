@@ -87,7 +87,7 @@ def crate_numbers():
         | quotes
         | attested
         | faults_of_logs
-        | arms("tpm_c", "framer", "Status", "TPM_FRAMER_")
+        | arms("tpm_c", "framer", "FramerState", "TPM_FRAMER_")
         | arms("tpm_c", "caller", "CallerFault", "TPM_CALLER_")
         | constants("tpm_c", "caller", "TPM_CALLER_")
         | {"TPM_CALLER_OPENED": statuses["TPM_DONE"]}

@@ -10,7 +10,7 @@ ran() {
     name=$1 wanted=$2
     shift 2
     : >"$room/err.wanted"
-    ./tpmtool "$@" >"$room/out" 2>"$room/err" </dev/null
+    "$program" "$@" >"$room/out" 2>"$room/err" </dev/null
     check $?
 }
 
@@ -155,7 +155,7 @@ else
 fi
 if command -v jq >"$room/out" 2>&1; then
     for objects in "$logs"/*.json; do
-        ./tpmtool events "${objects%.json}.log" --json </dev/null | jq .number >"$room/out" 2>&1
+        "$program" events "${objects%.json}.log" --json </dev/null | jq .number >"$room/out" 2>&1
         seq 1 "$(wc -l <"$objects")" >"$room/out.wanted"
         name="jq reads each object of ${objects##*/}"
         if cmp -s "$room/out" "$room/out.wanted"; then pass "$name"; else fail "$name" "$(tail -n 1 "$room/out")"; fi
@@ -163,17 +163,12 @@ if command -v jq >"$room/out" 2>&1; then
 else
     skip "jq reads each object" "jq is not there"
 fi
-# What tpm2_eventlog tells of them.
+# What tpm2_eventlog tells of them, and of those that were quoted.
+name="each fact that tpm2_eventlog tells of a log is told"
 if command -v tpm2_eventlog >"$room/out" 2>&1 && python3 -c pass >"$room/out" 2>&1; then
-    for list in "$logs"/*.registers; do
-        log=${list%.registers}.log
-        ./tpmtool events "$log" --json >"$room/objects_of" </dev/null
-        ./tpmtool events "$log" --header --json >"$room/header_of" </dev/null
-        holds "each fact that tpm2_eventlog tells of ${log##*/} is told" \
-            checks/logs/eventlog.py "$log" "$room/objects_of" "$room/header_of" "$list"
-    done
+    holds "$name" checks/logs/eventlog.py "$program" "$logs" checks/quotes
 else
-    skip "each fact that tpm2_eventlog tells" "tpm2_eventlog or python3 is not there"
+    skip "$name" "tpm2_eventlog or python3 is not there"
 fi
 name="lines are printable"
 if LC_ALL=C grep -q '[^ -~]' "$logs/said.listed"; then fail "$name" ""; else pass "$name"; fi
@@ -227,12 +222,12 @@ told "Secure Boot by a log that is none, as an object" 1 "$logs/cut_by_a_byte.lo
 # quoted NAME STATUS QUOTE LOG NONCE SELECTION QUOTE WORD..: the objects of a quote with these verdicts.
 quoted() {
     case=$1 ends=$2 signed=checks/quotes/$3.msg replayed=$4
-    checks/quotes/told.py "$signed" "$5" "$6" "$7" >"$room/out.wanted"
+    by_python checks/quotes/told.py "$signed" "$5" "$6" "$7" >"$room/out.wanted"
     shift 7
     told "$case" "$ends" "$replayed" --attest "$signed" "$@"
 }
 
-if python3 -c pass >"$room/out" 2>&1; then
+if python3 -c pass >"$room/out" 2>&1 && begin_python; then
     while read -r quote log hash nonce list; do
         of="the quote $quote as an object" log=checks/quotes/$log words="--hash $hash"
         sent="--nonce $nonce" list="--require $list"
@@ -263,13 +258,13 @@ if python3 -c pass >"$room/out" 2>&1; then
 
     # Secure Boot by a log that a quote vouches for, in the banks whose register 7 it selects.
     while read -r log list; do
-        checks/quotes/made.py "$logs/$log.registers" 6e6f "$list" >"$room/quote"
+        by_python checks/quotes/made.py "$logs/$log.registers" 6e6f "$list" >"$room/quote"
         words="--secure-boot --attest $room/quote --require $list"
-        checks/quotes/told.py "$room/quote" matches covers matches "$logs/$log.verdicts" >"$room/out.wanted"
+        by_python checks/quotes/told.py "$room/quote" matches covers matches "$logs/$log.verdicts" >"$room/out.wanted"
         case $(tail -n 1 "$room/out.wanted") in *true*) status=0 ;; *) status=1 ;; esac
         of="Secure Boot by $log and a quote of $list"
         told "$of" $status "$logs/$log.log" $words --nonce 6e6f
-        checks/quotes/told.py "$room/quote" differs covers matches "$logs/$log.verdicts" >"$room/out.wanted"
+        by_python checks/quotes/told.py "$room/quote" differs covers matches "$logs/$log.verdicts" >"$room/out.wanted"
         told "$of, for another nonce" 1 "$logs/$log.log" $words --nonce 6e
     done <<'    end'
         secure_on sha1:7+sha256:0,7
@@ -287,70 +282,71 @@ if python3 -c pass >"$room/out" 2>&1; then
         case $2 in "$room/list") right=0 ;; *) right=1 ;; esac
         of="the records of ${whole##*/} beside $1"
         words="--attest $room/quote --nonce 6e6f --allow $2"
-        ./tpmtool check "$whole" --attest "$room/quote" --nonce 6e6f --any-selection >"$room/out.wanted" </dev/null
-        checks/logs/allowed.py told "$events" "$2" >>"$room/out.wanted"
+        "$program" check "$whole" --attest "$room/quote" --nonce 6e6f --any-selection >"$room/out.wanted" </dev/null
+        by_python checks/logs/allowed.py told "$events" "$2" >>"$room/out.wanted"
         checked "$of" $right "$whole" $words
         sed 's/^selection not compared$/selection covers/' "$room/out.wanted" >"$room/covers"
         mv "$room/covers" "$room/out.wanted"
         checked "$of, and a selection" $right "$whole" $words --require "$named"
-        checks/quotes/told.py "$room/quote" matches any matches | sed '$d' >"$room/out.wanted"
-        checks/logs/allowed.py told "$events" "$2" json >>"$room/out.wanted"
+        by_python checks/quotes/told.py "$room/quote" matches any matches | sed '$d' >"$room/out.wanted"
+        by_python checks/logs/allowed.py told "$events" "$2" json >>"$room/out.wanted"
         case $right in 0) echo '{"ok":true}' ;; *) echo '{"ok":false}' ;; esac >>"$room/out.wanted"
         told "$of, as objects" $right "$whole" $words
-        checks/quotes/told.py "$room/quote" differs any matches >"$room/out.wanted"
+        by_python checks/quotes/told.py "$room/quote" differs any matches >"$room/out.wanted"
         told "$of, for another nonce" 1 "$whole" --attest "$room/quote" --nonce 6e --allow "$2"
         [ -e "${events%.events}.verdicts" ] || return 0
-        checks/quotes/told.py "$room/quote" matches any matches "${events%.events}.verdicts" >"$room/boot"
+        by_python checks/quotes/told.py "$room/quote" matches any matches "${events%.events}.verdicts" >"$room/boot"
         sed '$d' "$room/boot" >"$room/out.wanted"
-        checks/logs/allowed.py told "$events" "$2" json >>"$room/out.wanted"
+        by_python checks/logs/allowed.py told "$events" "$2" json >>"$room/out.wanted"
         case $right,$(tail -n 1 "$room/boot") in 0,*true*) ;; *) right=1 ;; esac
         case $right in 0) echo '{"ok":true}' ;; *) echo '{"ok":false}' ;; esac >>"$room/out.wanted"
         told "$of, and Secure Boot" $right "$whole" $words --secure-boot
     }
     for events in "$logs"/*.events; do
         log=${events%.events}
-        checks/logs/allowed.py lists "$events" >"$room/list"
+        by_python checks/logs/allowed.py lists "$events" >"$room/list"
         cp "$room/list" "$room/out.wanted"
         checked "the digests that ${log##*/} extends" 0 "$log.log" --extends
         [ -s "$room/list" ] || continue
-        named=$(checks/logs/allowed.py registers "$room/list")
-        checks/quotes/made.py "$log.registers" 6e6f "$named" >"$room/quote"
+        named=$(by_python checks/logs/allowed.py registers "$room/list")
+        by_python checks/quotes/made.py "$log.registers" 6e6f "$named" >"$room/quote"
         allows "its own digests" "$room/list"
         # A digest of each register but its first is that of another register, and its first is alone.
         awk '{ of = $1 " " $2 } !(of in first) { first[of] = $3; print of, "00" substr($3, 3), "other"; next }
             { print $1, $2 == 0 ? 1 : 0, $3; print }' "$room/list" >"$room/others"
-        named=$(checks/logs/allowed.py registers "$room/others")
-        checks/quotes/made.py "$log.registers" 6e6f "$named" >"$room/quote"
+        named=$(by_python checks/logs/allowed.py registers "$room/others")
+        by_python checks/quotes/made.py "$log.registers" 6e6f "$named" >"$room/quote"
         allows "other digests" "$room/others"
     done
 
     # Records beside a quote that vouches for some: of logs in which the data, the types or further records are others
     # than those that were quoted, and of the quotes of real logs.
     list=sha1:1,8+sha256:0,1,4,7,8+sha384:1,7
-    checks/quotes/made.py "$logs/attested.registers" 6e6f "$list" >"$room/quote"
+    by_python checks/quotes/made.py "$logs/attested.registers" 6e6f "$list" >"$room/quote"
     words="--attest $room/quote --nonce 6e6f --require $list"
     for log in attested attested_changed attested_relabelled attested_added; do
-        { checks/quotes/told.py --lines "$room/quote" matches covers matches && cat "$logs/$log.vouched"; } \
+        { by_python checks/quotes/told.py --lines "$room/quote" matches covers matches && cat "$logs/$log.vouched"; } \
             >"$room/out.wanted"
         ran "the records of $log beside a quote" 0 events "$logs/$log.log" $words
-        { checks/quotes/told.py "$room/quote" matches covers matches && cat "$logs/$log.vouched_objects"; } \
+        { by_python checks/quotes/told.py "$room/quote" matches covers matches && cat "$logs/$log.vouched_objects"; } \
             >"$room/out.wanted"
         ran "the objects of $log beside a quote" 0 events "$logs/$log.log" $words --json
     done
     log=$logs/attested
-    { checks/quotes/told.py --lines "$room/quote" matches covers matches && awk '$2 == 8' "$log.vouched"; } \
+    { by_python checks/quotes/told.py --lines "$room/quote" matches covers matches && awk '$2 == 8' "$log.vouched"; } \
         >"$room/out.wanted"
     ran "the records of a register beside a quote" 0 events "$log.log" $words --register 8
-    { checks/quotes/told.py --lines "$room/quote" any any matches && awk '$2 == 8' "$log.vouched"; } >"$room/out.wanted"
+    { by_python checks/quotes/told.py --lines "$room/quote" any any matches && awk '$2 == 8' "$log.vouched"; } \
+        >"$room/out.wanted"
     ran "the records of a register beside a quote of any nonce and selection" 0 events "$log.log" --register 8 \
         --attest "$room/quote" --any-nonce --any-selection
     # unasked NAME LOG NONCE SELECTION QUOTE WORD..: records are not told beside a quote with these verdicts.
     unasked() {
         case=$1 replayed=$2 verdicts="$3:$4:$5"
         shift 5
-        (IFS=: && checks/quotes/told.py --lines "$room/quote" $verdicts) >"$room/out.wanted"
+        (IFS=: && by_python checks/quotes/told.py --lines "$room/quote" $verdicts) >"$room/out.wanted"
         ran "no records beside a quote $case" 1 events "$replayed" --attest "$room/quote" "$@"
-        (IFS=: && checks/quotes/told.py "$room/quote" $verdicts) >"$room/out.wanted"
+        (IFS=: && by_python checks/quotes/told.py "$room/quote" $verdicts) >"$room/out.wanted"
         ran "no objects of records beside a quote $case" 1 events "$replayed" --attest "$room/quote" "$@" --json
     }
     unasked "for another nonce" "$log.log" differs covers matches --nonce 6e --require "$list"
@@ -365,11 +361,11 @@ if python3 -c pass >"$room/out" 2>&1; then
     while read -r quote log hash nonce list; do
         log=checks/quotes/$log signed=checks/quotes/$quote.msg
         words="--attest $signed --nonce $nonce --require $list --hash $hash"
-        { checks/quotes/told.py --lines "$signed" matches covers matches &&
-            python3 "$logs/list_events.py" "$log" "$list"; } >"$room/out.wanted"
+        { by_python checks/quotes/told.py --lines "$signed" matches covers matches &&
+            by_python checks/logs/list_events.py "$log" "$list"; } >"$room/out.wanted"
         ran "the records of ${log##*/} beside the quote $quote" 0 events "$log" $words --digests --places
-        { checks/quotes/told.py "$signed" matches covers matches &&
-            python3 "$logs/list_events.py" "$log" "$list" --json; } >"$room/out.wanted"
+        { by_python checks/quotes/told.py "$signed" matches covers matches &&
+            by_python checks/logs/list_events.py "$log" "$list" --json; } >"$room/out.wanted"
         ran "the objects of ${log##*/} beside the quote $quote" 0 events "$log" $words --json
     done <checks/quotes/cases.txt
 else
@@ -404,7 +400,7 @@ if [ -z "$unjudged" ]; then pass "each log is judged"; else fail "each log is ju
 wrong=
 for length in $(seq 0 215); do
     head -c "$length" "$logs/worked.log" >"$room/log"
-    ./tpmtool check "$room/log" >"$room/out" 2>"$room/err" </dev/null
+    "$program" check "$room/log" >"$room/out" 2>"$room/err" </dev/null
     status=$?
     case $length in
     73 | 89 | 215) [ $status -eq 0 ] || wrong="$wrong $length: status $status;" ;;
@@ -427,7 +423,7 @@ checked "a list of 16,777,216 bytes" 0 $logs/worked.log --registers "$room/list"
 echo >>"$room/list"
 name="a list of 16,777,217 bytes" wanted=3
 echo 'input too long' >"$room/err.wanted"
-./tpmtool check $logs/worked.log --registers "$room/list" >"$room/out" 2>"$room/err" </dev/null
+"$program" check $logs/worked.log --registers "$room/list" >"$room/out" 2>"$room/err" </dev/null
 check $?
 
 # The header, and records of 16 zero bytes, as many as have room in 16,777,216 bytes; and then one more.

@@ -39,7 +39,7 @@ if ! command -v valgrind >/dev/null 2>&1; then
 elif [ -z "$compiler" ]; then
     skip "$name_of_same" "there is no C compiler"
 elif ! checked tpm_bench || ! compiled tpm_bench llvm ||
-    ! "$compiler" -o "$same" "$same.c" crates/tpm_bench/out/libtpm_bench.a >>"$room/lib" 2>&1; then
+    ! "$compiler" -o "$same" "$same.c" crates/tpm_bench/out/llvm/libtpm_bench.a >>"$room/lib" 2>&1; then
     fail "$name_of_same" "it isn't built: $(tail -n 3 "$room/lib")"
 else
     same_lists 32

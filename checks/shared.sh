@@ -94,6 +94,19 @@ want_trials() {
     exit
 }
 
+# begin_python: starts a process of Python for the scripts that by_python runs.
+begin_python() {
+    mkfifo "$room/asked_of_python" "$room/answers_of_python" || return
+    python3 checks/scripts.py "$room/printed" <"$room/asked_of_python" >"$room/answers_of_python" &
+    exec 8>"$room/asked_of_python" 9<"$room/answers_of_python"
+}
+
+# by_python SCRIPT WORD..: what this script prints with these words; its status.
+by_python() {
+    { printf '%s\t' "$@" && echo; } >&8
+    read -r by_python <&9 && cat "$room/printed" && return "$by_python"
+}
+
 # find_compiler: $compiler becomes a C compiler, or empty.
 find_compiler() {
     compiler=

@@ -1,5 +1,5 @@
 # What builds an archive beside the gate: a C compiler, or none, and the toolchain's own over the libraries that are
-# kept.
+# kept. What it says is added to $room/lib.
 
 kit=$(dirname "$(rt doc)")
 
@@ -22,23 +22,38 @@ rattle() {
     (
         cd "crates/$crate" && "$kit/bin/rattle" "$@" --crate-name "$crate" --crate-type staticlib src/lib.rt --extern "std=$kit/rlibs/std.rlib" \
             -L "dependency=$kit/rlibs" --antt-project "$kit/rattle/logic/antt-project.json"
-    ) >"$room/lib" 2>&1
+    ) >>"$room/lib" 2>&1
 }
 
 # checked CRATE: its proofs are checked once, for each backend. Libraries of the gate and of an earlier `./tpmtool
 # --build` may not go together: those that don't are built anew.
 checked() {
     mkdir -p "crates/$1/out"
-    rattle "$1" check -o "$room/$1.checked" --logic-built "$kit/logic_built" && return
-    grep -q unusable-built-library "$room/lib" && (cd "crates/$1" && rt lib) >"$room/lib" 2>&1 &&
-        rattle "$1" check -o "$room/$1.checked" --logic-built "$kit/logic_built"
+    rattle "$1" check --jobs 4 -o "$room/$1.checked" --logic-built "$kit/logic_built" && return
+    grep -q unusable-built-library "$room/lib" && (cd "crates/$1" && rt lib) >>"$room/lib" 2>&1 &&
+        rattle "$1" check --jobs 4 -o "$room/$1.checked" --logic-built "$kit/logic_built"
 }
 
-# compiled CRATE BACKEND: its archive in out/, as this backend compiles what was checked.
+# compiled CRATE BACKEND: its archive in out/BACKEND, as this backend compiles what was checked.
 compiled() {
-    rm -f "crates/$1/out/lib$1.a"
+    mkdir -p "crates/$1/out/$2"
     rattle "$1" build --crate-checked "$room/$1.checked" --toolchain "$kit/toolchain" --backend "$2" \
-        -o "out/lib$1.a" && [ -f "crates/$1/out/lib$1.a" ]
+        -o "out/$2/lib$1.new" && mv "crates/$1/out/$2/lib$1.new" "crates/$1/out/$2/lib$1.a"
+}
+
+# archives: the library for C is there, by both backends and no older than a source; else it is built.
+archives() {
+    for built in crates/tpm_c/out/llvm/libtpm_c.a crates/tpm_c/out/rattle/libtpm_c.a; do
+        [ -f "$built" ] && [ -z "$(find crates.txt crates/*/src crates/*/specs crates/*/proofs \
+            -not -path '*/tpmtool/*' -newer "$built" | head -n 1)" ] || break
+        built=
+    done
+    if [ -n "$built" ]; then
+        checked tpm_c || return
+        compiled tpm_c rattle &
+        compiled tpm_c llvm && wait $! || return
+    fi
+    cp -p crates/tpm_c/out/llvm/libtpm_c.a crates/tpm_c/out/libtpm_c.a
 }
 
 # count_in FUNCTION WORD..: the instructions of this function and what it calls, where these words are run.

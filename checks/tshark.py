@@ -1,5 +1,5 @@
 """Frames as tshark tells them beside `show --json`: the same sizes, codes, names of commands, handles and sessions.
-Those of the packets that tshark reads are told as those of lines.
+Those of the packets that tshark reads are told as those of lines, with the number, time and connection of the packet.
 
     python3 checks/tshark.py [CAPTURE]
 
@@ -128,7 +128,8 @@ def main(capture=None):
         text.writelines(f"{mark} {data.hex()}\n" for mark, data in frames)
         text.flush()
         theirs, told, packed = list(by_tshark(file.name)), ours("--file", text.name), ours("--pcap", file.name)
-    if packed != told:
+    places = [{"packet": at, "time": f"{at - 1}.000000000", "connection": 1} for at in range(1, len(frames) + 1)]
+    if packed != [one | place for one, place in zip(told, places)]:
         sys.exit("the frames of the packets are told otherwise than those of the lines")
     if not len(frames) == len(theirs) == len(told):
         sys.exit(f"{len(frames)} frames, {len(theirs)} packets, {len(told)} objects")

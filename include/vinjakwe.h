@@ -112,7 +112,7 @@ size_t tpm_device_counters(const struct tpm_device *device);
  * than `which`. */
 uint32_t tpm_device_counter(const struct tpm_device *device, size_t which, struct tpm_counter *view);
 
-/* ---- a framer: a stream cut into its buffers, each of which states its size (Part 1, "Command/Response Structure") */
+/* ---- a framer: a stream split into its buffers, each of which states its size (Part 1, "Command/Response Structure") */
 
 struct tpm_framer;
 

@@ -1,6 +1,7 @@
 #!/usr/bin/env python3
-"""eventlog.py LOG OBJECTS HEADER REGISTERS: prints each fact that tpm2_eventlog tells of a log, and these do not: what
-`tpmtool events LOG --json`, `events LOG --header --json` and `check LOG` print. Its status is then 1.
+"""eventlog.py PROGRAM FOLDER..: prints each fact that tpm2_eventlog tells of a log in these folders, and these do not:
+what `events LOG --json`, `events LOG --header --json` and `check LOG` of the program tpmtool print. Its status is then
+1; else it prints how much was told. A log that has a fault is passed over.
 
 tpm2_eventlog tells bytes where it knows no more of them: they have to be the member `data`, or within it.
 """
@@ -10,6 +11,7 @@ import struct
 import subprocess
 import sys
 import uuid
+from pathlib import Path
 
 NUMBERS = {"sha512": "000d", "sm3_256": "0012", "sha3_256": "0027", "sha3_384": "0028", "sha3_512": "0029"}
 
@@ -92,15 +94,18 @@ def lacks_of(facts, told):
             yield name, value
 
 
-def main(log, objects, header, registers):
-    text = subprocess.run(["tpm2_eventlog", log], capture_output=True).stdout.decode("utf-8", "replace")
-    facts, values = events_of(text)
-    with open(objects) as file:
-        told = [it for it in map(json.loads, file) if "number" in it]
-    with open(header) as file:
-        lacking = [(0, *fact) for fact in lacks_of_header(facts[0], json.load(file)["header"])]
-    with open(registers) as file:
-        ours = {(bank, int(number)): value for bank, number, value in map(str.split, file)}
+def said_by(*words):
+    return subprocess.run(words, capture_output=True).stdout.decode("utf-8", "replace")
+
+
+def compared(program, log):
+    """How many facts tpm2_eventlog tells of a log, and those that the program doesn't tell."""
+    facts, values = events_of(said_by("tpm2_eventlog", log))
+    told = [json.loads(line) for line in said_by(program, "events", log, "--json").splitlines()]
+    header = json.loads(said_by(program, "events", log, "--header", "--json"))["header"]
+    lines = map(str.split, said_by(program, "check", log).splitlines())
+    ours = {(bank, int(number)): value for bank, number, value in lines}
+    lacking = [(0, *fact) for fact in lacks_of_header(facts[0], header)]
     for found, it in zip(facts[1:], told):
         lacking += [(it["number"], *fact) for fact in lacks_of(found, it)]
     if len(facts) - 1 > len(told):
@@ -108,9 +113,19 @@ def main(log, objects, header, registers):
     # tpm2_eventlog extends by what EV_NO_ACTION has, too.
     passed = {it["register"] for it in told if it["type"] == "EV_NO_ACTION"}
     lacking += [at for at, value in values.items() if at[1] not in passed and ours.get(at, value) != value]
-    for fact in lacking:
-        print(*fact)
-    return 1 if lacking else 0
+    return sum(map(len, facts)) + len(values), lacking
+
+
+def main(program, *folders):
+    told, logs, wrong = 0, 0, 0
+    for log in sorted(log for folder in folders for log in Path(folder).glob("*.log")):
+        if subprocess.run([program, "check", log], capture_output=True).returncode == 0:
+            facts, lacking = compared(program, log)
+            told, logs, wrong = told + facts, logs + 1, wrong + len(lacking)
+            for fact in lacking:
+                print(log, *fact)
+    print(f"{told} facts of {logs} logs, of which {wrong} are not told")
+    return 1 if wrong or not told else 0
 
 
 if __name__ == "__main__":

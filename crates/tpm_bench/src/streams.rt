@@ -8,7 +8,7 @@ ghost use Rattle.tpm_wire.specs.Sources.{CountsEnds, CountsFailures, IsWhereItFa
 ghost use Rattle.tpm_stream.specs.Frames.{IsFrame, Frames};
 
 use crate::out::append;
-use tpm_stream::{Framer, Status, read_frame, read_frame_into};
+use tpm_stream::{Framer, FramerState, read_frame, read_frame_into};
 use tpm_wire::{Buffer, ReadFailed, Source};
 
 /// Writes the frames of the stream one after the other, and answers how many bytes they have. The
@@ -30,9 +30,9 @@ pub extern "C" fn tpm_bench_push_frames(stream: &[u8], most: usize, out: &mut [u
         let (_, left) = rest.split_at(taken);
         rest = left;
         match status {
-            Status::More => {}
-            Status::Ready => written = take_frame(&mut framer, out, written),
-            Status::Broken(_) => return written,
+            FramerState::More => {}
+            FramerState::Ready => written = take_frame(&mut framer, out, written),
+            FramerState::Broken(_) => return written,
         }
     }
     written

@@ -15,7 +15,6 @@ use crate::command_header::long_fault;
 use arrayvec::ArrayVec;
 use tpm_commands::{Command, CommandBody};
 use tpm_types::StartupType;
-use tpm_wire::response_code::SIZE;
 use tpm_wire::{Cursor, Refusal};
 
 fn read_command<'a>(bytes: &'a [u8], decoded: &mut Command<'a>) -> Result<(), Refusal>
@@ -27,12 +26,7 @@ fn read_command<'a>(bytes: &'a [u8], decoded: &mut Command<'a>) -> Result<(), Re
     let (header, handles) = read_before_params(&mut cursor, &mut decoded.auths)?;
     decoded.body.begin(header.code);
     decoded.body.read(&mut cursor, handles.as_slice())?;
-    if cursor.left() > 0 {
-        return Err(Refusal {
-            code: SIZE,
-            at: cursor.at(),
-        });
-    }
+    cursor.end()?;
     Ok(())
 }
 

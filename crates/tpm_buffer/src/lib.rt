@@ -26,6 +26,6 @@ pub use laws::{
 };
 pub use response_areas::{ReplyAreas, reply_areas};
 pub use response_decode::decode_response;
-pub use response_encode::{encode_response, put_code, put_reply, put_reply_params};
+pub use response_encode::{encode_response, put_code, put_reply, put_reply_in, put_reply_params};
 pub use response_header::RSP_COMMAND;
 pub use response_sessions::{ReplyRef, take_parameter_size};

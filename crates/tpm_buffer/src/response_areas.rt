@@ -211,12 +211,7 @@ fn read_areas(code: CommandCode, bytes: &[u8]) -> Result<ReplyAreas<'_>, Refusal
     }
     let mut cursor = Cursor::new(bytes);
     let areas = take_areas(&mut cursor, bytes, code)?;
-    if cursor.left() > 0 {
-        return Err(Refusal {
-            code: SIZE,
-            at: cursor.at(),
-        });
-    }
+    cursor.end()?;
     Ok(areas)
 }
 

@@ -163,12 +163,7 @@ fn read_bytes(
     }
     let mut cursor = Cursor::new(bytes);
     let error = read_response(&mut cursor, code, body, auths)?;
-    if cursor.left() > 0 {
-        return Err(Refusal {
-            code: SIZE,
-            at: cursor.at(),
-        });
-    }
+    cursor.end()?;
     Ok(error)
 }
 

@@ -1,6 +1,6 @@
 //! From a response to its bytes.
 
-ghost use Rattle.std.specs.Prelude.{◌≡◌, ◌≤◌, ◌<◌, ◌^◌, ◌+◌, ◌++◌, ◌∷◌, length};
+ghost use Rattle.std.specs.Prelude.{◌≡◌, ◌≤◌, ◌<◌, ◌^◌, ◌+◌, ◌*◌, ◌++◌, ◌∷◌, length};
 ghost use Rattle.std.specs.Int.{bytes_high_first};
 ghost use Rattle.tpm_wire.specs.Spelling.{spelling, Fits};
 ghost use Rattle.tpm_wire.specs.Path.{Spells};
@@ -17,7 +17,7 @@ use arrayvec::ArrayVec;
 use tpm_commands::{ErrorCode, ReplyBody, Response};
 use tpm_types::AuthReply;
 use tpm_wire::response_code::BAD_TAG;
-use tpm_wire::{Buffer, Wire, known_list, list_len, put_list};
+use tpm_wire::{Buffer, Room, Wire, known_list, list_len, put_list};
 
 // ---- parameters
 
@@ -36,7 +36,7 @@ pub fn put_reply_params(body: &ReplyBody, out: &mut Buffer)
 fn sessions_len(auths: &[AuthReply]) -> usize
     requires { (0 < length auths.now) × (length auths.now ≤ 3) }
     ensures value { result ≡ length (spelling reply_sessions auths.now) }
-    ensures fits { result ≤ 303 }
+    ensures fits { result ≤ 101 * length auths.now }
 {
     match auths.split_first() {
         Some((first, others)) => first.len() + list_len(others),
@@ -46,10 +46,10 @@ fn sessions_len(auths: &[AuthReply]) -> usize
 
 // Adds the spelling of the sessions, one behind the other.
 #[tactic(auto, unfolding(crate::specs::Responses::reply_sessions, crate::specs::Responses::further_sessions))]
-fn put_sessions(auths: &[AuthReply], out: &mut Buffer)
+fn put_sessions<R: Room>(auths: &[AuthReply], out: &mut R)
     requires some { 0 < length auths.now }
-    requires room { length out.old.items + length (spelling reply_sessions auths.now) ≤ 4096 }
-    ensures { out.new.items ≡ out.old.items ++ spelling reply_sessions auths.now }
+    requires room { length (R.written out.old) + length (spelling reply_sessions auths.now) ≤ R.size }
+    ensures { R.written out.new ≡ R.written out.old ++ spelling reply_sessions auths.now }
 {
     if let Some((first, others)) = auths.split_first() {
         first.put(out);
@@ -86,7 +86,7 @@ fn reply_len(body: &ReplyBody, auths: &[AuthReply]) -> usize
         ≡ length
         (spelling (reply (code_for_reply body.now) (reply_tag auths.now))
         (record { body = body.now; auths = auths.now })) }
-    ensures fits { result ≤ 4000 }
+    ensures fits { result ≤ 438 + 101 * length auths.now }
     ensures params { length (spelling (parameters_of_reply body.now) body.now) ≤ most_params }
 {
     let sessions = if auths.is_empty() {
@@ -98,15 +98,15 @@ fn reply_len(body: &ReplyBody, auths: &[AuthReply]) -> usize
 }
 
 #[tactic(auto, unfolding(crate::specs::Responses::with_sessions, crate::specs::Responses::without_sessions, crate::specs::Responses::parameter_size))]
-fn put_parts(body: &ReplyBody, auths: &[AuthReply], out: &mut Buffer)
+fn put_parts<R: Room>(body: &ReplyBody, auths: &[AuthReply], out: &mut R)
     requires few { length auths.now ≤ 3 }
-    requires room { length out.old.items
+    requires room { length (R.written out.old)
         + length
         (spelling (reply (code_for_reply body.now) (reply_tag auths.now))
         (record { body = body.now; auths = auths.now }))
-        ≤ 4096 }
-    ensures { out.new.items
-        ≡ out.old.items
+        ≤ R.size }
+    ensures { R.written out.new
+        ≡ R.written out.old
         ++ spelling (reply (code_for_reply body.now) (reply_tag auths.now))
         (record { body = body.now; auths = auths.now }) }
 {
@@ -172,12 +172,15 @@ fn known_reply(body: &ReplyBody, auths: &[AuthReply])
     }
 }
 
+/// Adds to an empty room what `encode_response` answers for a reply with these sessions, at most three. It has room for
+/// the header, a handle, parameterSize, the longest parameters, and each of the sessions at its longest.
 #[tactic(auto, unfolding(crate::specs::Responses::response, crate::specs::Responses::response_front, crate::specs::Responses::response_tag, crate::specs::Responses::response_code, crate::specs::Commands::command_size))]
 #[inline(never)]
-fn put_done(body: &ReplyBody, auths: &[AuthReply], out: &mut Buffer)
+pub fn put_reply_in<R: Room>(body: &ReplyBody, auths: &[AuthReply], out: &mut R)
     requires few { length auths.now ≤ 3 }
-    requires empty { length out.old.items ≡ 0 }
-    ensures bytes { out.new.items
+    requires empty { length (R.written out.old) ≡ 0 }
+    requires room { 448 + 101 * length auths.now ≤ R.size }
+    ensures bytes { R.written out.new
         ≡ spelling (response_layout (code_for_reply body.now))
         (responses.Done body.now (record { items = auths.now })) }
     ensures short { length
@@ -203,7 +206,7 @@ pub fn put_reply(body: &ReplyBody, auths: &[AuthReply], out: &mut Buffer)
         ≡ spelling (response_layout (code_for_reply body.now))
         (responses.Done body.now (record { items = auths.now })) }
 {
-    put_done(body, auths, out);
+    put_reply_in(body, auths, out);
     body.known_handles();
     known_reply(body, auths);
 }

@@ -4,13 +4,13 @@ use base.Fraction.{full_share}
 use base.Fml.{Fml, fex}
 use denote.RawPtr.{Ptr, lies_at}
 use Rattle.tpm_stream.specs.Frames.{IsFrame, Pushes, Advances}
-use Rattle.tpm_stream.specs.declared.framer.Status.TheVariants.{More, Ready, Broken}
-use Rattle.tpm_stream.specs.declared.framer.Status.{Status}
+use Rattle.tpm_stream.specs.declared.framer.FramerState.TheVariants.{More, Ready, Broken}
+use Rattle.tpm_stream.specs.declared.framer.FramerState.{FramerState}
 use Rattle.tpm_stream.specs.contracts.framer.Framer.{the_row}
 use Rattle.tpm_c.specs.Written.{IsIn}
 
 -- the numbers of what a framer holds
-abbrev pub status_number : Status → ℕ
+abbrev pub status_number : FramerState → ℕ
 status_number More = 0
 status_number Ready = 1
 status_number (Broken e) = 2
@@ -31,8 +31,8 @@ pub record PushTold : Type 0 where
 
 -- one that took so many bytes of a piece
 abbrev pub pushed_at : List ℕ → PushTold → Ptr → Fml
-pushed_at held push p = fex ((new : List ℕ) × (s : Status)
-    × Pushes (record { old = held; piece = push.piece; new = new; taken = push.taken; status = s })
+pushed_at held push p = fex ((new : List ℕ) × (s : FramerState)
+    × Pushes (record { old = held; piece = push.piece; new = new; taken = push.taken; state = s })
     × (push.status ≡ status_number s)) (λ x. framer_at x.0 p)
 
 -- A frame is held, and there is room for it.

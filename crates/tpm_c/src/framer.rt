@@ -4,12 +4,12 @@ ghost use Rattle.std.specs.Prelude.{◌≡◌, ℕ, List, []};
 ghost use Rattle.std.specs.Borrow.{sem};
 ghost use denote.RawPtr.{room_at};
 ghost use Rattle.tpm_stream.specs.Frames.{Pushes};
-ghost use Rattle.tpm_stream.specs.declared.framer.Status.{Status as StatusOf};
+ghost use Rattle.tpm_stream.specs.declared.framer.FramerState.{FramerState as StateOf};
 ghost use Rattle.tpm_stream.specs.contracts.framer.Framer.{the_row};
 ghost use Rattle.tpm_c.specs.Framers.{framer_at, next_at, pushed_at, status_number, FrameIn};
 
 use crate::handed::put;
-use tpm_stream::{Framer, Status};
+use tpm_stream::{Framer, FramerState};
 
 /// Makes a framer in the room, which holds nothing.
 #[unsafe(no_mangle)]
@@ -34,13 +34,13 @@ pub unsafe extern "C" fn tpm_framer_push(place: *mut u8, piece: &[u8], status: &
 }
 
 fn push(framer: &mut Framer, piece: &[u8], status: &mut u32) -> usize
-    ensures { (s : StatusOf)
+    ensures { (s : StateOf)
         × Pushes (record {
           old = framer.old;
           piece = piece.now;
           new = framer.new;
           taken = result;
-          status = s;
+          state = s;
         })
         × (status.new ≡ status_number s) }
 {
@@ -49,13 +49,13 @@ fn push(framer: &mut Framer, piece: &[u8], status: &mut u32) -> usize
     taken
 }
 
-fn number(status: Status) -> u32
-    ensures { result ≡ status_number status }
+fn number(state: FramerState) -> u32
+    ensures { result ≡ status_number state }
 {
-    match status {
-        Status::More => 0,
-        Status::Ready => 1,
-        Status::Broken(_) => 2,
+    match state {
+        FramerState::More => 0,
+        FramerState::Ready => 1,
+        FramerState::Broken(_) => 2,
     }
 }
 

@@ -22,8 +22,8 @@ ghost use Rattle.tpm_model.specs.Answers.{Presented, presented, Done, outcome, a
 ghost use Rattle.tpm_model.specs.InStep.{CallerSession, InStep};
 ghost use Rattle.tpm_model.specs.Callers.{started_with, Seal, sealed_command, Waiting, Refused, Code, NotExpected};
 ghost use Rattle.tpm_model.specs.Callers.{WrongMac, Opened, opened, given_up};
-ghost use Rattle.tpm_model.specs.Runs.Event.{Given};
-ghost use Rattle.tpm_model.specs.Runs.{Event, after};
+ghost use Rattle.tpm_model.specs.Runs.Stimulus.{Given};
+ghost use Rattle.tpm_model.specs.Runs.{Stimulus, after};
 ghost use Rattle.tpm_model.specs.Lives.{Life, Execution, executions, reply_to, WasAccepted, NoncesDifferOver};
 ghost use Rattle.tpm_model.specs.Lives.{IsOfCallersOver};
 ghost use Rattle.tpm_model.specs.Premises.{IsAccepted, NoncesDiffer, nonce_bytes, most_nonce, IsReady, rolled};
@@ -98,7 +98,7 @@ pub fn two_ends_in_step()
 /// callers, with nonceCallers that differ pairwise, and where no two different texts have the same HMAC, a reply that
 /// a `Waiting` opens is the reply to its own buffer, and there is one such reply.
 pub fn no_mixed_replies()
-    ensures own { (o : Origin) (seals : List Seal) (openings : List Opening) (es fs : List Event)
+    ensures own { (o : Origin) (seals : List Seal) (openings : List Opening) (es fs : List Stimulus)
         (bytes n : List ℕ) (s : Seal) (w : Opened) →
         IsOfCallers o seals openings (es ++ Given bytes n ∷ fs) →
         IsAmong s seals → needs_authorization (code_for s.body) ≡ true →
@@ -106,7 +106,7 @@ pub fn no_mixed_replies()
         opened (sent s).waiting (answer o (after o [] es) bytes n) ≡ Ok w →
         IsAccepted o (after o [] es) bytes n × Spells command (sealed_command s) bytes }
     ensures once { (o : Origin) (seals : List Seal) (openings : List Opening)
-        (es fs gs : List Event) (bytes other n m : List ℕ) (s : Seal) (w v : Opened) →
+        (es fs gs : List Stimulus) (bytes other n m : List ℕ) (s : Seal) (w v : Opened) →
         NoncesDiffer (es ++ Given bytes n ∷ fs ++ Given other m ∷ gs) →
         IsOfCallers o seals openings (es ++ Given bytes n ∷ fs ++ Given other m ∷ gs) →
         IsAmong s seals → needs_authorization (code_for s.body) ≡ true →

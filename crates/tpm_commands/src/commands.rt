@@ -3,7 +3,7 @@
 ghost use Rattle.std.specs.Prelude.{◌≡◌, ◌≤◌, ◌+◌, ◌*◌, ◌++◌, length, ℕ, IfOk, OnOk};
 ghost use Rattle.tpm_wire.specs.Spelling.{spelling, Fits};
 ghost use Rattle.tpm_wire.specs.Buffers.{TakesNumbered};
-ghost use Rattle.tpm_commands.specs.Limits.{most_params};
+ghost use Rattle.tpm_commands.specs.Limits.{most_params, most_reply_params};
 ghost use Rattle.tpm_commands.specs.Handles.{handle_kinds, needs_authorization as does_need, handles as handles_layout};
 ghost use Rattle.tpm_commands.specs.Parameters.{params_code, parameters};
 ghost use Rattle.tpm_commands.specs.Table.{body_from, params_of, code_for, handles_of};
@@ -33,7 +33,7 @@ use tpm_types::{
     Alg, AuthValue, BindHandle, CommandCode, Digest, DigestValues, Nonce, NvAuthHandle, PcrIndex,
     PcrOrNull, RH_NULL, RH_OWNER, Selections, SessionHandle, SessionType, StartupType, SymDef,
 };
-use tpm_wire::{Buffer, Cursor, Refusal, Wire};
+use tpm_wire::{Cursor, Refusal, Room, Wire};
 
 // ---- rows
 
@@ -168,12 +168,12 @@ impl CommandBody<'_> {
 
     /// Adds its parameters at the end.
     #[inline(never)]
-    pub fn put_params(&self, out: &mut Buffer)
-        requires { length out.old.items
+    pub fn put_params<R: Room>(&self, out: &mut R)
+        requires { length (R.written out.old)
             + length (spelling (parameters (code_for self.now)) (params_of self.now))
-            ≤ 4096 }
-        ensures { out.new.items
-            ≡ out.old.items ++ spelling (parameters (code_for self.now)) (params_of self.now) }
+            ≤ R.size }
+        ensures { R.written out.new
+            ≡ R.written out.old ++ spelling (parameters (code_for self.now)) (params_of self.now) }
     {
         match self {
             CommandBody::NvDefineSpace { auth, public } => nv::put_nv_define_space(
@@ -632,14 +632,14 @@ impl ReplyBody {
 
     /// Adds its handle at the end, where it has one.
     #[tactic(auto, unfolding(crate::specs::Replies::session_handle, tpm_types::specs::Handles::session))]
-    pub fn put_handles(&self, out: &mut Buffer)
-        requires { length out.old.items
+    pub fn put_handles<R: Room>(&self, out: &mut R)
+        requires { length (R.written out.old)
             + length
             (spelling (reply_handles (code_for_reply self.now))
             (reply_handles_of self.now))
-            ≤ 4096 }
-        ensures { out.new.items
-            ≡ out.old.items
+            ≤ R.size }
+        ensures { R.written out.new
+            ≡ R.written out.old
             ++ spelling (reply_handles (code_for_reply self.now)) (reply_handles_of self.now) }
     {
         if let ReplyBody::StartAuthSession(reply) = self {
@@ -658,11 +658,11 @@ impl ReplyBody {
         }
     }
 
-    /// How many bytes its parameters have, 0 to 3,500.
+    /// How many bytes its parameters have, 0 to 430.
     #[inline(always)]
     pub fn params_len(&self) -> usize
         ensures value { result ≡ length (spelling (parameters_of_reply self.now) self.now) }
-        ensures fits { result ≤ most_params }
+        ensures fits { result ≤ most_reply_params }
         ensures spelled { (left : ℕ) → Fits left (parameters_of_reply self.now) self.now }
     {
         match self {
@@ -692,12 +692,12 @@ impl ReplyBody {
     }
 
     /// Adds its parameters at the end.
-    pub fn put_params(&self, out: &mut Buffer)
-        requires { length out.old.items
+    pub fn put_params<R: Room>(&self, out: &mut R)
+        requires { length (R.written out.old)
             + length (spelling (parameters_of_reply self.now) self.now)
-            ≤ 4096 }
-        ensures { out.new.items
-            ≡ out.old.items ++ spelling (parameters_of_reply self.now) self.now }
+            ≤ R.size }
+        ensures { R.written out.new
+            ≡ R.written out.old ++ spelling (parameters_of_reply self.now) self.now }
     {
         match self {
             ReplyBody::PcrEvent(digests) => pcr::put_pcr_event_reply(digests, out),

@@ -8,5 +8,3 @@ pub mod Passing
 pub mod Ran
 pub mod Lives
 pub mod KeptAgain
-pub mod Entries
-pub mod Publics

@@ -11,9 +11,9 @@ use Rattle.tpm_model.specs.Counters.{counter_in, value_of, value_at, nv_memory}
 use Rattle.tpm_model.specs.Kept.{IsFair, kept_memory, restored}
 use Rattle.tpm_model.specs.Present.{Present, present}
 use Rattle.tpm_model.specs.Answers.{Done, outcome, answer, next}
-use Rattle.tpm_model.specs.Runs.{Event, Given, Cycled, after}
+use Rattle.tpm_model.specs.Runs.{Stimulus, Given, Cycled, after}
 use Rattle.tpm_model.specs.Premises.{code_in, HasSessionMac}
-use Rattle.tpm_model.specs.Lives.{Life, origin_behind, Execution, executions_of, executions, kept_executions, WasAccepted}
+use Rattle.tpm_model.specs.Lives.{Life, origin_after, Execution, executions_of, executions, kept_executions, WasAccepted}
 use Rattle.tpm_model.specs.Lives.{Increments, value_after, NoncesDifferOver, NoCollisionOver}
 use Rattle.tpm_model.proofs.Lives.{both_cut, executions-append, twice_over, more_than_kept, more_than_first, more_than_none}
 use Rattle.tpm_device.specs.declared.device.Device.{Device}
@@ -45,7 +45,7 @@ are-append (c ∷ cs) ds (x ∷ xs) ys a b = (a.0, are-append cs ds xs ys a.1 b)
 are-append [] ds (x ∷ xs) ys a b = absurd a
 are-append (c ∷ cs) ds [] ys a b = absurd a
 
-calls_are : (o : Origin) (h : History) (old new : Device) (es : List Event) (calls : List Call) → Stands o h old → Calls old es calls new
+calls_are : (o : Origin) (h : History) (old new : Device) (es : List Stimulus) (calls : List Call) → Stands o h old → Calls old es calls new
     → AreOf calls (executions_of o h es) × Stands o (after o h es) new
 calls_are o h old new [] calls st (none, same) = (subst (λ (cs : List Call). AreOf cs []) (sym none) tt, subst (λ (d : Device). Stands o h d) same st)
 calls_are o h old new (Given bytes n ∷ es) calls st (response, d, later, by, is, others) =
@@ -59,9 +59,9 @@ calls_are o h old new (Given bytes n ∷ es) calls st (response, d, later, by, i
 calls_are o h old new (Cycled ∷ es) calls st (d, by, others) = calls_are o (PowerCycle ∷ h) d new es calls (by o h st) others
 
 -- A device that is made again stands at the next life's origin.
-made_again : (o : Origin) (life : Life) (old behind d : Device) (bytes : List ℕ) → Stands o [] old
-    → Spells kept_memory (nv_memory o (after o [] life.kept)) bytes → IsMadeOf (holds old).owner bytes d → Stands (origin_behind o life) [] d
-made_again o life old behind d bytes st kept m =
+made_again : (o : Origin) (life : Life) (old put_away d : Device) (bytes : List ℕ) → Stands o [] old
+    → Spells kept_memory (nv_memory o (after o [] life.kept)) bytes → IsMadeOf (holds old).owner bytes d → Stands (origin_after o life) [] d
+made_again o life old put_away d bytes st kept m =
     let nv = nv_memory o (after o [] life.kept) in
     let same : (holds d).nv ≡ nv = (exactly_one buffer buffer_sound kept_memory bytes).one_value (holds d).nv nv m.reads kept in
     m.made ∙ ap (restored (holds old).owner) same ∙ ap (λ (p : Present). restored p.owner nv) st
@@ -72,13 +72,13 @@ through : (o : Origin) (first : Device → Type 0) (ls : List Life) (all kept : 
 through o first [] all kept is (none, none_kept) =
     (subst (λ (cs : List Call). AreOf cs []) (sym none) tt, subst (λ (cs : List Call). AreOf cs []) (sym none_kept) tt)
 through o first (life ∷ ls) all kept is (x, all_later, kept_later, f, a, k, others) =
-    let later = origin_behind o life in
+    let later = origin_after o life in
     let h = after o [] life.kept in
     let st = is x.old f in
-    let one = calls_are o [] x.old x.behind life.kept x.kept st x.kept_by in
-    let two = calls_are o h x.behind x.last life.lost x.lost one.1 x.lost_by in
+    let one = calls_are o [] x.old x.put_away life.kept x.kept st x.kept_by in
+    let two = calls_are o h x.put_away x.last life.lost x.lost one.1 x.lost_by in
     let rest = through later (IsMadeOf (holds x.old).owner x.bytes) ls all_later kept_later
-    (λ d m. made_again o life x.old x.behind d x.bytes st (x.is_kept o h one.1) m) others in
+    (λ d m. made_again o life x.old x.put_away d x.bytes st (x.is_kept o h one.1) m) others in
     let own : AreOf (x.kept ++ x.lost) (executions_of o [] (life.kept ++ life.lost)) =
     subst (AreOf (x.kept ++ x.lost)) (sym (executions-append o [] life.kept life.lost))
     (are-append x.kept x.lost (executions_of o [] life.kept) (executions_of o h life.lost) one.0 two.0) in (

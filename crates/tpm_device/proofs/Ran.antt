@@ -1,4 +1,4 @@
--- What a device answers to events is the model's run.
+-- What a device answers to stimuli is the model's run.
 use Rattle.std.proofs.Common.{◌≡◌, ℕ, ◌<◌, List, [], ◌∷◌, ◌++◌, Some, None, Result, Ok, Err, refl, sym, ap, subst, ◌∙◌, arith}
 use Rattle.tpm_types.specs.declared.handle_sets.NvAuthHandle.{NvAuthHandle}
 use Rattle.tpm_commands.specs.declared.command.CommandBody.TheVariants.{NvIncrement}
@@ -7,7 +7,7 @@ use Rattle.tpm_model.specs.Counters.{counter_in, value_of, value_at}
 use Rattle.tpm_model.specs.Kept.{IsFair}
 use Rattle.tpm_model.specs.Present.{Present, present}
 use Rattle.tpm_model.specs.Answers.{Done, outcome, answer, next}
-use Rattle.tpm_model.specs.Runs.{Event, Given, Cycled, after, run}
+use Rattle.tpm_model.specs.Runs.{Stimulus, Given, Cycled, after, run}
 use Rattle.tpm_model.specs.Premises.{code_in, IsAccepted, HasSessionMac, NoncesDiffer, NoCollision}
 use Rattle.tpm_model.proofs.Fair.{fair_after}
 use Rattle.tpm_model.proofs.Refused.{refused_with}
@@ -19,7 +19,8 @@ use Rattle.tpm_device.specs.declared.device.Device.{Device}
 use Rattle.tpm_device.specs.Stands.{holds, Stands}
 use Rattle.tpm_device.specs.Runs.{Answers, Call, Executes, given_by, value_on}
 
-pub as_the_model : (o : Origin) (h : History) (old new : Device) (es : List Event) (responses : List (List ℕ)) → Stands o h old → Answers old es responses new
+pub as_the_model : (o : Origin) (h : History) (old new : Device) (es : List Stimulus) (responses : List (List ℕ))
+    → Stands o h old → Answers old es responses new
     → (responses ≡ run o h es) × Stands o (after o h es) new
 as_the_model o h old new [] responses st ran = (ran.0, subst (λ (d : Device). Stands o h d) ran.1 st)
 as_the_model o h old new (Given bytes nonce ∷ es) [] st ran = absurd ran
@@ -42,7 +43,7 @@ by_outcome o h bytes n (Err code) is zero =
 pub accepted : (o : Origin) (h : History) (bytes n response : List ℕ) → response ≡ answer o h bytes n → code_in response ≡ 0 → IsAccepted o h bytes n
 accepted o h bytes n response is zero = by_outcome o h bytes n (outcome (present o h) bytes n) refl (ap code_in (sym is) ∙ zero)
 
-pub not_twice : (o : Origin) (a : Device) (es fs gs : List Event) (rs ss : List (List ℕ)) (x y : Call) → Stands o [] a → Answers a es rs x.old → Executes x
+pub not_twice : (o : Origin) (a : Device) (es fs gs : List Stimulus) (rs ss : List (List ℕ)) (x y : Call) → Stands o [] a → Answers a es rs x.old → Executes x
     → Answers x.new fs ss y.old → Executes y → NoncesDiffer (es ++ given_by x ∷ fs ++ given_by y ∷ gs)
     → NoCollision o (es ++ given_by x ∷ fs ++ given_by y ∷ gs)
     → HasSessionMac x.bytes → x.bytes ≡ y.bytes → code_in x.response ≡ 0 → code_in y.response ≡ 0 → ⊥
@@ -52,9 +53,9 @@ not_twice o a es fs gs rs ss x y st first once second again nonces collisions ma
     let there = after o (next o here x.bytes x.nonce) fs in
     let two = as_the_model o (next o here x.bytes x.nonce) x.new y.old fs ss (once.stands o here one.1) second in
     let place : after o [] (es ++ given_by x ∷ fs) ≡ there = after-append o [] es (given_by x ∷ fs) in
-    let events : (List ℕ → List Event) = λ bytes. es ++ given_by x ∷ fs ++ Given bytes y.nonce ∷ gs in
-    twice o es fs gs x.bytes x.nonce y.nonce (subst (λ (bytes : List ℕ). NoncesDiffer (events bytes)) (sym same) nonces)
-    (subst (λ (bytes : List ℕ). NoCollision o (events bytes)) (sym same) collisions) mac
+    let stimuli : (List ℕ → List Stimulus) = λ bytes. es ++ given_by x ∷ fs ++ Given bytes y.nonce ∷ gs in
+    twice o es fs gs x.bytes x.nonce y.nonce (subst (λ (bytes : List ℕ). NoncesDiffer (stimuli bytes)) (sym same) nonces)
+    (subst (λ (bytes : List ℕ). NoCollision o (stimuli bytes)) (sym same) collisions) mac
     (accepted o here x.bytes x.nonce x.response (once.answers o here one.1) zero)
     (subst (λ (h : History). IsAccepted o h x.bytes y.nonce) (sym place)
     (subst (λ (bytes : List ℕ). IsAccepted o there bytes y.nonce) (sym same)
@@ -62,7 +63,7 @@ not_twice o a es fs gs rs ss x y st first once second again nonces collisions ma
 
 -- ---- no counter goes back
 
-pub rises : (o : Origin) (a b : Device) (es fs : List Event) (rs ss : List (List ℕ)) (c : Call) (x : Done) (by : NvAuthHandle) (i w : ℕ) →
+pub rises : (o : Origin) (a b : Device) (es fs : List Stimulus) (rs ss : List (List ℕ)) (c : Call) (x : Done) (by : NvAuthHandle) (i w : ℕ) →
     IsFair o.nv → Stands o [] a → Answers a es rs b → value_on b i ≡ Some w → Answers b fs ss c.old
     → Executes c → outcome (holds c.old) c.bytes c.nonce ≡ Ok x → x.command.body ≡ NvIncrement by i → (v : ℕ) × (value_on c.new i ≡ Some v) × (w < v)
 rises o a b es fs rs ss c x by i w fair st first had second last done body =
@@ -80,7 +81,7 @@ rises o a b es fs rs ss c x by i w fair st first had second last done body =
     let at_end : after o [] (es ++ fs ++ Given bytes n ∷ []) ≡ next o there bytes n = after-append o [] (es ++ fs) (Given bytes n ∷ []) in
     (more.0, ap (λ (p : Present). value_of (counter_in p.nv.counters i)) ends ∙ ap (λ (h : History). value_at o h i) (sym at_end) ∙ more.1, more.2)
 
-pub rises_from_the_start : (o : Origin) (a : Device) (es : List Event) (rs : List (List ℕ)) (c : Call) (x : Done) (by : NvAuthHandle) (i : ℕ) →
+pub rises_from_the_start : (o : Origin) (a : Device) (es : List Stimulus) (rs : List (List ℕ)) (c : Call) (x : Done) (by : NvAuthHandle) (i : ℕ) →
     Stands o [] a → value_on a i ≡ None → Answers a es rs c.old
     → Executes c → outcome (holds c.old) c.bytes c.nonce ≡ Ok x → x.command.body ≡ NvIncrement by i → (v : ℕ) × (value_on c.new i ≡ Some v)
     × (o.nv.greatest < v)
@@ -97,6 +98,6 @@ rises_from_the_start o a es rs c x by i st none first last done body =
 
 -- ---- NV memory stays fair
 
-pub stays_fair : (o : Origin) (a b : Device) (es : List Event) (rs : List (List ℕ)) → IsFair o.nv → Stands o [] a → Answers a es rs b → IsFair (holds b).nv
+pub stays_fair : (o : Origin) (a b : Device) (es : List Stimulus) (rs : List (List ℕ)) → IsFair o.nv → Stands o [] a → Answers a es rs b → IsFair (holds b).nv
 stays_fair o a b es rs fair st ran =
     subst IsFair (sym (ap (λ (p : Present). p.nv) (as_the_model o [] a b es rs st ran).1)) (fair_after o es fair)

@@ -16,7 +16,6 @@ use crate::response::ResponseBuffer;
 use tpm_buffer::Areas;
 use tpm_commands::{first_handle, pcr_or_null_in, read_pcr_extend};
 use tpm_types::DigestValues;
-use tpm_wire::response_code::SIZE;
 use tpm_wire::{Cursor, Refusal};
 
 // Reads the digests, or answers their first fault.
@@ -27,12 +26,7 @@ fn decode_digests(bytes: &[u8], digests: &mut DigestValues) -> Result<(), Refusa
 {
     let mut cursor = Cursor::new(bytes);
     read_pcr_extend(&mut cursor, digests)?;
-    if cursor.left() > 0 {
-        return Err(Refusal {
-            code: SIZE,
-            at: cursor.at(),
-        });
-    }
+    cursor.end()?;
     Ok(())
 }
 

@@ -8,7 +8,7 @@ ghost use Rattle.tpm_model.specs.Steps.{History, Origin};
 ghost use Rattle.tpm_model.specs.Counters.{value_at};
 ghost use Rattle.tpm_model.specs.Kept.{IsFair};
 ghost use Rattle.tpm_model.specs.Answers.{Done, outcome};
-ghost use Rattle.tpm_model.specs.Runs.{Event, after, run};
+ghost use Rattle.tpm_model.specs.Runs.{Stimulus, after, run};
 ghost use Rattle.tpm_model.specs.Premises.{code_in, HasSessionMac, NoncesDiffer, NoCollision};
 ghost use Rattle.tpm_model.specs.Lives.{Life, NoncesDifferOver, NoCollisionOver};
 ghost use Rattle.tpm_device.specs.declared.device.Device.{Device};
@@ -19,7 +19,7 @@ ghost use Rattle.tpm_device.specs.Lives.{LivesThrough};
 /// The responses of a device to buffers, nonces and power cycles, whatever they are, are the
 /// model's run, and the device stands at the history after them.
 pub fn answers_are_the_run()
-    ensures { (o : Origin) (h : History) (old new : Device) (es : List Event)
+    ensures { (o : Origin) (h : History) (old new : Device) (es : List Stimulus)
         (responses : List (List ℕ)) →
         Stands o h old →
         Answers old es responses new →
@@ -30,7 +30,7 @@ pub fn answers_are_the_run()
 /// and no two different texts that are checked have the same HMAC, it answers no buffer with a
 /// session's HMAC twice with code 0.
 pub fn no_replay()
-    ensures { (o : Origin) (first : Device) (before between later : List Event)
+    ensures { (o : Origin) (first : Device) (before between later : List Stimulus)
         (responses further : List (List ℕ)) (x y : Call) →
         Stands o [] first →
         Answers first before responses x.old →
@@ -50,7 +50,7 @@ pub fn no_replay()
 /// greater than each that the index had before on the device. Where the index had none at the origin, it is
 /// greater than the origin's greatest value. What was undefined, defined again or cycled in between changes nothing.
 pub fn no_counter_goes_back()
-    ensures had { (o : Origin) (first mid : Device) (before between : List Event)
+    ensures had { (o : Origin) (first mid : Device) (before between : List Stimulus)
         (responses further : List (List ℕ)) (x : Call) (d : Done) (by : NvAuthHandle) (i w : ℕ) →
         IsFair o.nv →
         Stands o [] first →
@@ -61,7 +61,7 @@ pub fn no_counter_goes_back()
         outcome (holds x.old) x.bytes x.nonce ≡ Ok d →
         d.command.body ≡ NvIncrement by i →
         (v : ℕ) × (value_on x.new i ≡ Some v) × (w < v) }
-    ensures made { (o : Origin) (first : Device) (before : List Event) (responses : List (List ℕ))
+    ensures made { (o : Origin) (first : Device) (before : List Stimulus) (responses : List (List ℕ))
         (x : Call) (d : Done) (by : NvAuthHandle) (i : ℕ) →
         Stands o [] first →
         value_on first i ≡ None →
@@ -90,7 +90,7 @@ pub fn no_replay_over_lives()
 {}
 
 /// No counter goes back over a device's lives: where NV memory was fair at the first origin, and an index has a value
-/// on the device behind a kept call, an increment that is done in a later kept call leaves a greater one, in the same
+/// on the device after a kept call, an increment that is done in a later kept call leaves a greater one, in the same
 /// life or in another. Each call whose response was handed out is a kept one. So it is for a value at the first origin;
 /// where the index had none there, each leaves more than the first origin's greatest value.
 pub fn no_counter_goes_back_over_lives()
@@ -124,7 +124,7 @@ pub fn no_counter_goes_back_over_lives()
 
 /// NV memory stays fair: where it was at the origin of a device, it is after each run.
 pub fn nv_memory_stays_fair()
-    ensures { (o : Origin) (a b : Device) (es : List Event) (rs : List (List ℕ)) →
+    ensures { (o : Origin) (a b : Device) (es : List Stimulus) (rs : List (List ℕ)) →
         IsFair o.nv →
         Stands o [] a →
         Answers a es rs b →

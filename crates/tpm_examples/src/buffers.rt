@@ -5,7 +5,7 @@ use arrayvec::ArrayVec;
 use std::io;
 use tpm_buffer::{decode_command, decode_response, encode_command};
 use tpm_commands::{Command, CommandBody, Response};
-use tpm_stream::{Framer, Status};
+use tpm_stream::{Framer, FramerState};
 use tpm_types::{CommandCode, StartupType};
 
 /// A command is a value; its bytes are its only spelling.
@@ -42,16 +42,16 @@ pub fn refused(rt: &impl Print) -> io::Result<()> {
     }
 }
 
-/// A stream is cut into its buffers, in whatever pieces it comes.
+/// A stream is split into its buffers, in whatever pieces it comes.
 pub fn frames(rt: &impl Print) -> io::Result<()> {
     let mut framer = Framer::new();
     for piece in [
         &[0x80, 0x01, 0x00, 0x00][..],
         &[0x00, 0x0a, 0x00, 0x00, 0x01, 0x00, 0x80][..],
     ] {
-        let (taken, status) = framer.push(piece);
+        let (taken, state) = framer.push(piece);
         println!(rt; "{taken} bytes taken")?;
-        if status == Status::Ready {
+        if state == FramerState::Ready {
             if let Some(frame) = framer.frame() {
                 println!(rt; "a frame of {} bytes", frame.len())?;
             }

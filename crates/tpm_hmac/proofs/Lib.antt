@@ -3,6 +3,6 @@ pub mod Trimming
 pub mod Filling
 pub mod Differences
 pub mod KdfaBlocks
-pub mod Kept
+pub mod Precomputed
 pub mod Joined
 pub mod Among

@@ -1,12 +1,12 @@
 //! A key that is hashed once for many HMACs (RFC 2104, section 4).
-#![tactic(auto, using(crate::proofs::Kept::changed))]
+#![tactic(auto, using(crate::proofs::Precomputed::changed))]
 
 ghost use Rattle.std.specs.Prelude.{◌≡◌, ◌↔◌, ℕ, List, ◌++◌, length, take, IsTrue};
 ghost use Rattle.std.specs.List.{flat_map};
 ghost use Rattle.tpm_types.specs.Alg.{digest_len, block_len};
 ghost use Rattle.tpm_types.specs.declared.alg.Alg.TheVariants as algs;
 ghost use Rattle.tpm_hmac.specs.Hmac.{hmac as hmac_of, xored as xored_bytes};
-ghost use Rattle.tpm_hmac.specs.Keys.{IsKept};
+ghost use Rattle.tpm_hmac.specs.Keys.{IsPrecomputed};
 ghost use Rattle.sha1.specs.Sha1.{Holds, sha1};
 ghost use Rattle.sha2.specs.Hashers.{Holds256};
 ghost use Rattle.sha2.specs.Sha256.{sha256};
@@ -18,9 +18,10 @@ use sha2::Digest as _;
 use std::marker::Model;
 use tpm_types::{Alg, BLOCK_BYTES, DIGEST_BYTES, Digest, Packed};
 
-/// What is kept of a key: the hashers that have taken in its block, changed for the inner and for the outer hash.
+/// What is precomputed of a key: the hashers that have taken in its block, changed for the inner and for the
+/// outer hash.
 #[derive(Drop)]
-pub(crate) enum Kept {
+pub(crate) enum Precomputed {
     Nothing,
     Sha1(sha1::Sha1, sha1::Sha1),
     Sha256(sha2::Sha256, sha2::Sha256),
@@ -33,7 +34,7 @@ pub(crate) enum Kept {
 pub struct SessionKey {
     hash: Alg,
     bytes: Packed<DIGEST_BYTES>,
-    kept: Kept,
+    precomputed: Precomputed,
 }
 
 impl Model for SessionKey {
@@ -43,24 +44,24 @@ impl Model for SessionKey {
 
     ghost view = { λ k. record { hash = k.hash; bytes = k.bytes } };
 
-    ghost invariant = { λ k. keys.IsKept k.hash k.bytes k.kept };
+    ghost invariant = { λ k. keys.IsPrecomputed k.hash k.bytes k.precomputed };
 }
 
 #[inline(never)]
-fn states_of(hash: Alg, key: &[u8]) -> Kept
-    ensures { IsKept hash key.now result }
+fn states_of(hash: Alg, key: &[u8]) -> Precomputed
+    ensures { IsPrecomputed hash key.now result }
 {
     if hash == Alg::Sha384 {
-        return Kept::Nothing;
+        return Precomputed::Nothing;
     }
     let block = key_block(hash, key, &[]);
     match (
         keyed(hash, &block, INNER_PAD),
         keyed(hash, &block, OUTER_PAD),
     ) {
-        (Hasher::Sha1(inner), Hasher::Sha1(outer)) => Kept::Sha1(inner, outer),
-        (Hasher::Sha256(inner), Hasher::Sha256(outer)) => Kept::Sha256(inner, outer),
-        _ => Kept::Nothing,
+        (Hasher::Sha1(inner), Hasher::Sha1(outer)) => Precomputed::Sha1(inner, outer),
+        (Hasher::Sha256(inner), Hasher::Sha256(outer)) => Precomputed::Sha256(inner, outer),
+        _ => Precomputed::Nothing,
     }
 }
 
@@ -110,15 +111,15 @@ impl SessionKey {
     pub fn new(hash: Alg, bytes: Digest) -> Self
         ensures { result ≡ record { hash = hash; bytes = bytes } }
     {
-        let kept = if bytes.as_slice().is_empty() {
-            Kept::Nothing
+        let precomputed = if bytes.as_slice().is_empty() {
+            Precomputed::Nothing
         } else {
             states_of(hash, bytes.as_slice())
         };
         SessionKey {
             hash,
             bytes: Packed::new(bytes.as_slice()),
-            kept,
+            precomputed,
         }
     }
 
@@ -126,8 +127,8 @@ impl SessionKey {
     pub fn keep(&mut self)
         ensures { self.new ≡ self.old }
     {
-        if let Kept::Nothing = self.kept {
-            self.kept = states_of(self.hash, self.bytes.as_slice());
+        if let Precomputed::Nothing = self.precomputed {
+            self.precomputed = states_of(self.hash, self.bytes.as_slice());
         }
     }
 
@@ -159,10 +160,10 @@ impl SessionKey {
             hmac_of self.now.hash self.now.bytes (flat_map (λ p. p.now) parts.now) }
         ensures len { length result ≡ digest_len self.now.hash }
     {
-        match &self.kept {
-            Kept::Nothing => hmac(self.hash, self.bytes.as_slice(), parts),
-            Kept::Sha1(inner, outer) => mac_sha1(inner, outer, parts),
-            Kept::Sha256(inner, outer) => mac_sha256(inner, outer, parts),
+        match &self.precomputed {
+            Precomputed::Nothing => hmac(self.hash, self.bytes.as_slice(), parts),
+            Precomputed::Sha1(inner, outer) => mac_sha1(inner, outer, parts),
+            Precomputed::Sha256(inner, outer) => mac_sha256(inner, outer, parts),
         }
     }
 }

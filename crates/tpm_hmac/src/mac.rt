@@ -52,7 +52,7 @@ pub(crate) fn key_block(alg: Alg, front: &[u8], back: &[u8]) -> [u8; BLOCK_BYTES
 }
 
 // A hasher that has taken in the key's block, changed by the pad.
-#[tactic(auto, using(crate::proofs::Kept::changed))]
+#[tactic(auto, using(crate::proofs::Precomputed::changed))]
 #[inline(never)]
 pub(crate) fn keyed(alg: Alg, block: &[u8; BLOCK_BYTES], pad: u8) -> Hasher
     ensures { Holding alg result (xored_bytes pad (take (block_len alg) block.now)) }

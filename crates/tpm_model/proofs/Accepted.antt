@@ -12,8 +12,8 @@ use Rattle.tpm_model.specs.Authorization.{check_evidence, reply_auths}
 use Rattle.tpm_model.specs.Actions.{action}
 use Rattle.tpm_model.specs.Answers.{Presented, presented, permitted, Done, reply_params, performed, outcome, code_only}
 use Rattle.tpm_model.specs.Answers.{with_outcome, next}
-use Rattle.tpm_model.specs.Runs.Event.{Given, Cycled}
-use Rattle.tpm_model.specs.Runs.{Event, after}
+use Rattle.tpm_model.specs.Runs.Stimulus.{Given, Cycled}
+use Rattle.tpm_model.specs.Runs.{Stimulus, after}
 
 abbrev ok : {A : Type 0} → A → Result A ℕ
 ok x = Ok x
@@ -71,7 +71,7 @@ after_next P o h bytes n here step =
 -- an invariant of runs
 pub along : (P : History → Type 0) (o : Origin)
     → ((h : History) (bytes n : List ℕ) (d : Done) → Passed (present o h) bytes n d → P h → P (Accepted d.command d.reply n ∷ h))
-    → ((h : History) → P h → P (PowerCycle ∷ h)) → (es : List Event) (h : History) → P h → P (after o h es)
+    → ((h : History) → P h → P (PowerCycle ∷ h)) → (es : List Stimulus) (h : History) → P h → P (after o h es)
 along P o step power [] h here = here
 along P o step power (Given bytes n ∷ es) h here =
     along P o step power es (next o h bytes n) (after_next P o h bytes n here (λ d s. step h bytes n d s here))

@@ -40,7 +40,7 @@ use Rattle.tpm_model.specs.Actions.{is_definable, check_define, counter_size, mo
 use Rattle.tpm_model.specs.Kept.{check_kept_public, check_kept_auth, IsKept, check_counters, IsFair, judged}
 use Rattle.tpm_model.specs.Kept.{value_of_number, number_of_value, kept_value, kept_counter, magic_number, version_number}
 use Rattle.tpm_model.specs.Kept.{kept_contents, digest_behind, kept_memory}
-use Rattle.tpm_model.specs.Runs.{Event, after}
+use Rattle.tpm_model.specs.Runs.{Stimulus, after}
 use Rattle.tpm_model.proofs.Accepted.{along}
 use Rattle.tpm_model.proofs.Kept.{refused_none, is_none, defined_kept, incremented_kept, checked_defined, checked_without}
 use Rattle.tpm_model.proofs.Kept.{checked_incremented}
@@ -163,11 +163,11 @@ fair_by p (bodies.NvUndefineSpace index) n reply e f = fair_without p.nv index f
 fair_by p (bodies.NvIncrement by index) n reply e f = fair_incremented p.nv by index f
 fair_by p _ n reply e f = f
 
-pub fair_along : (o : Origin) (es : List Event) (h : History) → IsFair (nv_memory o h) → IsFair (nv_memory o (after o h es))
+pub fair_along : (o : Origin) (es : List Stimulus) (h : History) → IsFair (nv_memory o h) → IsFair (nv_memory o (after o h es))
 fair_along o =
     along (λ h. IsFair (nv_memory o h)) o (λ h bytes n d s f. fair_by (present o h) d.command.body n d.reply.body s.act f) (λ h f. f)
 
-pub fair_after : (o : Origin) (es : List Event) → IsFair o.nv → IsFair (nv_memory o (after o [] es))
+pub fair_after : (o : Origin) (es : List Stimulus) → IsFair o.nv → IsFair (nv_memory o (after o [] es))
 fair_after o es f = fair_along o es [] f
 
 -- ---- what bytes spell

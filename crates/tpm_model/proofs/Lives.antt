@@ -15,13 +15,13 @@ use Rattle.tpm_model.specs.Kept.{IsFair}
 use Rattle.tpm_model.specs.Present.{present}
 use Rattle.tpm_model.specs.Answers.{presented, outcome, next}
 use Rattle.tpm_model.specs.Callers.{Seal, seal_key, seal_text, seal_auth, sealed_command, waiting, Opened, opened}
-use Rattle.tpm_model.specs.Runs.Event.{Given, Cycled}
-use Rattle.tpm_model.specs.Runs.{Event, happens, after}
+use Rattle.tpm_model.specs.Runs.Stimulus.{Given, Cycled}
+use Rattle.tpm_model.specs.Runs.{Stimulus, happens, after}
 use Rattle.tpm_model.specs.Premises.{IsAccepted, HasSessionMac, nonces, AreApart, NoncesDiffer}
 use Rattle.tpm_hmac.specs.Among.{IsAmong}
 use Rattle.tpm_model.specs.Premises.{Keyed, keyed, text_checked, texts_checked, AreFree, text_replied, texts_replied}
 use Rattle.tpm_model.specs.Premises.{Opening, texts_opened}
-use Rattle.tpm_model.specs.Lives.{Life, executed, origin_behind, Execution, executions_of, executions}
+use Rattle.tpm_model.specs.Lives.{Life, executed, origin_after, Execution, executions_of, executions}
 use Rattle.tpm_model.specs.Lives.{kept_executions, reply_to, WasAccepted, Increments, value_after, NoncesDifferOver, texts_over}
 use Rattle.tpm_model.specs.Lives.{NoCollisionOver, IsOfCallersOver}
 use Rattle.tpm_model.proofs.Fair.{fair_after}
@@ -63,41 +63,41 @@ pub both_cut : {A : Type 0} (all front middle between behind : List A) (x y : A)
 both_cut all front middle between behind x y e f =
     e ∙ ap (λ l. front ++ x ∷ l) f ∙ sym (append_assoc front (x ∷ between) (y ∷ behind))
 
--- an execution in a run: the events before it and behind it, and what is executed behind it
-record InRun (o : Origin) (h : History) (es : List Event) (x : Execution) (ys : List Execution) : Type 0 where
-  before : List Event
-  behind : List Event
+-- an execution in a run: the stimuli before it and behind it, and what is executed after it
+record InRun (o : Origin) (h : History) (es : List Stimulus) (x : Execution) (ys : List Execution) : Type 0 where
+  before : List Stimulus
+  behind : List Stimulus
   bytes : List ℕ
   nonce : List ℕ
-  events : es ≡ before ++ Given bytes nonce ∷ behind
+  stimuli : es ≡ before ++ Given bytes nonce ∷ behind
   is : x ≡ record { origin = o; history = after o h before; bytes = bytes; nonce = nonce }
   later : ys ≡ executions_of o (next o (after o h before) bytes nonce) behind
 
--- the same with one more event before
-one_more : (o : Origin) (h : History) (e : Event) (es : List Event) (x : Execution) (ys : List Execution) → InRun o (happens o h e) es x ys
+-- the same with one more stimulus before
+one_more : (o : Origin) (h : History) (e : Stimulus) (es : List Stimulus) (x : Execution) (ys : List Execution) → InRun o (happens o h e) es x ys
     → InRun o h (e ∷ es) x ys
 one_more o h e es x ys p = record {
   before = e ∷ p.before;
   behind = p.behind;
   bytes = p.bytes;
   nonce = p.nonce;
-  events = ap (λ (l : List Event). e ∷ l) p.events;
+  stimuli = ap (λ (l : List Stimulus). e ∷ l) p.stimuli;
   is = p.is;
   later = p.later;
 }
 
-place : (o : Origin) (h : History) (es : List Event) (xs ys : List Execution) (x : Execution) → executions_of o h es ≡ xs ++ x ∷ ys → InRun o h es x ys
+place : (o : Origin) (h : History) (es : List Stimulus) (xs ys : List Execution) (x : Execution) → executions_of o h es ≡ xs ++ x ∷ ys → InRun o h es x ys
 place o h [] xs ys x e = absurd (nothing xs ys x e)
 place o h (Given bytes n ∷ es) [] ys x e =
     let one : record { origin = o; history = h; bytes = bytes; nonce = n } ≡ x = cc in
     let rest : executions_of o (next o h bytes n) es ≡ ys = cc in
-    record { before = []; behind = es; bytes = bytes; nonce = n; events = refl; is = sym one; later = sym rest }
+    record { before = []; behind = es; bytes = bytes; nonce = n; stimuli = refl; is = sym one; later = sym rest }
 place o h (Given bytes n ∷ es) (z ∷ xs) ys x e =
     let rest : executions_of o (next o h bytes n) es ≡ xs ++ x ∷ ys = cc in
     one_more o h (Given bytes n) es x ys (place o (next o h bytes n) es xs ys x rest)
 place o h (Cycled ∷ es) xs ys x e = one_more o h Cycled es x ys (place o (PowerCycle ∷ h) es xs ys x e)
 
-pub executions-append : (o : Origin) (h : History) (es fs : List Event)
+pub executions-append : (o : Origin) (h : History) (es fs : List Stimulus)
     → executions_of o h (es ++ fs) ≡ executions_of o h es ++ executions_of o (after o h es) fs
 executions-append o h [] fs = refl
 executions-append o h (Given bytes n ∷ es) fs =
@@ -107,24 +107,24 @@ executions-append o h (Cycled ∷ es) fs = executions-append o (PowerCycle ∷ h
 
 -- ---- counters
 
--- What holds of the first NV memory and stays holds where a kept event is executed.
+-- What holds of the first NV memory and stays holds where a kept stimulus is executed.
 holds_at : (P : ℕ → Option ℕ → Type 0) → IsKept P → (o : Origin) (i : ℕ) (ls : List Life) (xs ys : List Execution) (x : Execution)
     → kept_executions o ls ≡ xs ++ x ∷ ys → HoldsOf P i o.nv → HoldsOf P i (nv_memory x.origin x.history)
 holds_at P k o i [] xs ys x e f = absurd (nothing xs ys x e)
 holds_at P k o i (l ∷ ls) xs ys x e f =
-    elim (cut (executions_of o [] l.kept) (kept_executions (origin_behind o l) ls) xs ys x e) [
+    elim (cut (executions_of o [] l.kept) (kept_executions (origin_after o l) ls) xs ys x e) [
       | inl c ↦
           let p = place o [] l.kept xs c.0 x c.1 in
           subst (λ (y : Execution). HoldsOf P i (nv_memory y.origin y.history)) (sym p.is) (kept_along P k o i p.before [] f)
-      | inr c ↦ holds_at P k (origin_behind o l) i ls c.0 ys x c.1 (kept_along P k o i l.kept [] f)
+      | inr c ↦ holds_at P k (origin_after o l) i ls c.0 ys x c.1 (kept_along P k o i l.kept [] f)
     ]
 
--- An index that has a value after a kept event is given a greater one by what comes.
+-- An index that has a value after a kept stimulus is given a greater one by what comes.
 floor_later : (o : Origin) (ls : List Life) (xs ys zs : List Execution) (x y : Execution) (i w : ℕ) → IsFair o.nv
     → kept_executions o ls ≡ xs ++ x ∷ (ys ++ y ∷ zs) → value_after x i ≡ Some w → HoldsOf (IsFloor w) i (nv_memory y.origin y.history)
 floor_later o [] xs ys zs x y i w fair e has = absurd (nothing xs (ys ++ y ∷ zs) x e)
 floor_later o (l ∷ ls) xs ys zs x y i w fair e has =
-    let later = origin_behind o l in
+    let later = origin_after o l in
     elim (cut (executions_of o [] l.kept) (kept_executions later ls) xs (ys ++ y ∷ zs) x e) [
       | inl c ↦
           let p = place o [] l.kept xs c.0 x c.1 in
@@ -141,7 +141,7 @@ floor_later o (l ∷ ls) xs ys zs x y i w fair e has =
                 (kept_along (IsFloor w) (floor w) o i r.before g held)
             | inr q ↦
                 let ends : after o [] l.kept ≡ after o g p.behind =
-                ap (after o []) p.events ∙ after-append o [] p.before (Given p.bytes p.nonce ∷ p.behind) in
+                ap (after o []) p.stimuli ∙ after-append o [] p.before (Given p.bytes p.nonce ∷ p.behind) in
                 holds_at (IsFloor w) (floor w) later i ls q.0 zs y q.1
                 (subst (λ (z : History). HoldsOf (IsFloor w) i (nv_memory o z)) (sym ends) (kept_along (IsFloor w) (floor w) o i p.behind g held))
           ]
@@ -175,7 +175,7 @@ more_than_none o ls xs ys x i e none more =
 -- an execution in one of the lives: the nonces before it in its life, and its texts, are among those of the lives
 record InLives (o : Origin) (ls : List Life) (x : Execution) : Type 0 where
   origin : Origin
-  before : List Event
+  before : List Stimulus
   bytes : List ℕ
   nonce : List ℕ
   is : x ≡ record { origin = origin; history = after origin [] before; bytes = bytes; nonce = nonce }
@@ -186,27 +186,27 @@ record InLives (o : Origin) (ls : List Life) (x : Execution) : Type 0 where
       → IsAmong t (texts_over texts_replied o ls)
 
 -- the nonces before a place
-nonces_before : (es fs gs : List Event) (bytes n m : List ℕ) → es ≡ fs ++ Given bytes n ∷ gs → IsAmong m (nonces fs) → IsAmong m (nonces es)
+nonces_before : (es fs gs : List Stimulus) (bytes n m : List ℕ) → es ≡ fs ++ Given bytes n ∷ gs → IsAmong m (nonces fs) → IsAmong m (nonces es)
 nonces_before es fs gs bytes n m e i =
-    subst (λ (l : List Event). IsAmong m (nonces l)) (sym e)
+    subst (λ (l : List Stimulus). IsAmong m (nonces l)) (sym e)
     (subst (IsAmong m) (sym (nonces-append fs (Given bytes n ∷ gs))) (among_front m (nonces fs) (n ∷ nonces gs) i))
 
 -- the text at a place
-text_at : (o : Origin) (es fs gs : List Event) (bytes n : List ℕ) (t : Keyed) → es ≡ fs ++ Given bytes n ∷ gs
+text_at : (o : Origin) (es fs gs : List Stimulus) (bytes n : List ℕ) (t : Keyed) → es ≡ fs ++ Given bytes n ∷ gs
     → text_checked (presented (present o (after o [] fs)) bytes) ≡ t ∷ [] → IsAmong t (texts_checked o [] es)
-text_at o es fs gs bytes n t e is = subst (λ (l : List Event). IsAmong t (texts_checked o [] l)) (sym e) (among_here o [] fs gs bytes n t is)
+text_at o es fs gs bytes n t e is = subst (λ (l : List Stimulus). IsAmong t (texts_checked o [] l)) (sym e) (among_here o [] fs gs bytes n t is)
 
 -- the text of the reply there
-reply_at : (o : Origin) (es fs gs : List Event) (bytes n : List ℕ) (t : Keyed) → es ≡ fs ++ Given bytes n ∷ gs
+reply_at : (o : Origin) (es fs gs : List Stimulus) (bytes n : List ℕ) (t : Keyed) → es ≡ fs ++ Given bytes n ∷ gs
     → text_replied (presented (present o (after o [] fs)) bytes) (outcome (present o (after o [] fs)) bytes n) n ≡ t ∷ [] → IsAmong t (texts_replied o [] es)
-reply_at o es fs gs bytes n t e is = subst (λ (l : List Event). IsAmong t (texts_replied o [] l)) (sym e) (among_reply o [] fs gs bytes n t is)
+reply_at o es fs gs bytes n t e is = subst (λ (l : List Stimulus). IsAmong t (texts_replied o [] l)) (sym e) (among_reply o [] fs gs bytes n t is)
 
 place_over : (o : Origin) (ls : List Life) (xs ys : List Execution) (x : Execution) → executions o ls ≡ xs ++ x ∷ ys → InLives o ls x
 place_over o [] xs ys x e = absurd (nothing xs ys x e)
 place_over o (l ∷ ls) xs ys x e =
     let es = executed l in
     let others = flat_map executed ls in
-    let later = origin_behind o l in
+    let later = origin_after o l in
     elim (cut (executions_of o [] es) (executions later ls) xs ys x e) [
       | inl c ↦
           let p = place o [] es xs c.0 x c.1 in
@@ -217,11 +217,11 @@ place_over o (l ∷ ls) xs ys x e =
             nonce = p.nonce;
             is = p.is;
             nonces_are = λ n i. subst (IsAmong n) (sym (nonces-append es others))
-                (among_front n (nonces es) (nonces others) (nonces_before es p.before p.behind p.bytes p.nonce n p.events i));
+                (among_front n (nonces es) (nonces others) (nonces_before es p.before p.behind p.bytes p.nonce n p.stimuli i));
             texts_are = λ t i. among_front t (texts_checked o [] es) (texts_over texts_checked later ls)
-                (text_at o es p.before p.behind p.bytes p.nonce t p.events i);
+                (text_at o es p.before p.behind p.bytes p.nonce t p.stimuli i);
             replies_are = λ t i. among_front t (texts_replied o [] es) (texts_over texts_replied later ls)
-                (reply_at o es p.before p.behind p.bytes p.nonce t p.events i);
+                (reply_at o es p.before p.behind p.bytes p.nonce t p.stimuli i);
           }
       | inr c ↦
           let p = place_over later ls c.0 ys x c.1 in
@@ -238,7 +238,7 @@ place_over o (l ∷ ls) xs ys x e =
     ]
 
 -- A session's nonce was handed in, in its own life.
-handed_in : (o : Origin) (es : List Event) (bytes n : List ℕ) (a : Auth) → Used o (after o [] es) bytes n a
+handed_in : (o : Origin) (es : List Stimulus) (bytes n : List ℕ) (a : Auth) → Used o (after o [] es) bytes n a
     → IsAmong (last_nonce (slot_of a.session) (after o [] es)) (nonces es)
 handed_in o es bytes n a v =
     let k = slot_of a.session in
@@ -254,7 +254,7 @@ record Twice (c : Command) (a : Auth) (bytes other : List ℕ) : Type 0 where
   some : 0 < length a.hmac
 
 -- a command that was accepted in one life, and in a later one
-across : (o p : Origin) (es gs : List Event) (bytes other n m : List ℕ) (c : Command) (a : Auth) (xs ys : List (List ℕ)) (texts : List Keyed)
+across : (o p : Origin) (es gs : List Stimulus) (bytes other n m : List ℕ) (c : Command) (a : Auth) (xs ys : List (List ℕ)) (texts : List Keyed)
     → Twice c a bytes other → AreApart (xs ++ ys) → AreFree texts
     → ((r : List ℕ) → IsAmong r (nonces es) → IsAmong r xs) → ((r : List ℕ) → IsAmong r (nonces gs) → IsAmong r ys)
     → ((t : Keyed) → text_checked (presented (present o (after o [] es)) bytes) ≡ t ∷ [] → IsAmong t texts)
@@ -278,7 +278,7 @@ twice_by o [] xs ys zs x y c a e differ free two first second = nothing xs (ys +
 twice_by o (l ∷ ls) xs ys zs x y c a e differ free two first second =
     let es = executed l in
     let others = flat_map executed ls in
-    let later = origin_behind o l in
+    let later = origin_after o l in
     let apart : AreApart (nonces es ++ nonces others) = subst AreApart (nonces-append es others) differ in
     let texts = texts_checked o [] es in
     elim (cut (executions_of o [] es) (executions later ls) xs (ys ++ y ∷ zs) x e) [
@@ -291,13 +291,13 @@ twice_by o (l ∷ ls) xs ys zs x y c a e differ free two first second =
             | inl q ↦
                 let r = place o g p.behind ys q.0 y (sym p.later ∙ q.1) in
                 let all : es ≡ p.before ++ Given p.bytes p.nonce ∷ r.before ++ Given r.bytes r.nonce ∷ r.behind =
-                both_cut es p.before p.behind r.before r.behind (Given p.bytes p.nonce) (Given r.bytes r.nonce) p.events r.events in
+                both_cut es p.before p.behind r.before r.behind (Given p.bytes p.nonce) (Given r.bytes r.nonce) p.stimuli r.stimuli in
                 let there : after o [] (p.before ++ Given p.bytes p.nonce ∷ r.before) ≡ after o g r.before =
                 after-append o [] p.before (Given p.bytes p.nonce ∷ r.before) in
                 let again : IsAccepted o (after o g r.before) r.bytes r.nonce = subst WasAccepted r.is second in
                 twice_as o p.before r.before r.behind p.bytes r.bytes p.nonce r.nonce c a
                 (subst NoncesDiffer all (apart_front (nonces es) (nonces others) apart))
-                (subst (λ (m : List Event). AreFree (texts_checked o [] m)) all
+                (subst (λ (m : List Stimulus). AreFree (texts_checked o [] m)) all
                 (λ u v i j. free u v (among_front u texts (texts_over texts_checked later ls) i) (among_front v texts (texts_over texts_checked later ls) j)))
                 (subst (λ (z : Execution). Spells command c z.bytes) p.is two.first) (subst (λ (z : Execution). Spells command c z.bytes) r.is two.second)
                 two.one two.is two.some accepted (subst (λ (z : History). IsAccepted o z r.bytes r.nonce) (sym there) again)
@@ -312,8 +312,8 @@ twice_by o (l ∷ ls) xs ys zs x y c a e differ free two first second =
                   some = two.some;
                 })
                 apart free
-                (λ n i. nonces_before es p.before p.behind p.bytes p.nonce n p.events i) r.nonces_are
-                (λ t i. among_front t texts (texts_over texts_checked later ls) (text_at o es p.before p.behind p.bytes p.nonce t p.events i))
+                (λ n i. nonces_before es p.before p.behind p.bytes p.nonce n p.stimuli i) r.nonces_are
+                (λ t i. among_front t texts (texts_over texts_checked later ls) (text_at o es p.before p.behind p.bytes p.nonce t p.stimuli i))
                 (λ t i. among_later t texts (texts_over texts_checked later ls) (r.texts_are t i))
                 accepted (subst WasAccepted r.is second)
           ]

@@ -51,8 +51,8 @@ use Rattle.tpm_model.specs.Answers.{presented, Done, outcome, answered, answer, 
 use Rattle.tpm_model.specs.Callers.{Seal, seal_key, seal_text, seal_auth, sealed_command, Waiting, waiting, CallerFault}
 use Rattle.tpm_model.specs.Callers.{NotExpected, WrongMac, Opened, awaited_text, has_mac, unless, opened_session}
 use Rattle.tpm_model.specs.Callers.{opened_response, opened}
-use Rattle.tpm_model.specs.Runs.Event.{Given, Cycled}
-use Rattle.tpm_model.specs.Runs.{Event, after}
+use Rattle.tpm_model.specs.Runs.Stimulus.{Given, Cycled}
+use Rattle.tpm_model.specs.Runs.{Stimulus, after}
 use Rattle.tpm_model.specs.Premises.{IsAccepted, HasSessionMac, NoncesDiffer, most_nonce, Keyed, mac_of}
 use Rattle.tpm_hmac.specs.Among.{IsAmong}
 use Rattle.tpm_model.specs.Premises.{texts_checked, AreFree, IsSealedBy, AreSealed, IsOther, SealsDiffer}
@@ -188,7 +188,7 @@ no_reply_tag c r = refl
 
 -- ---- lists
 
-pub among_reply : (o : Origin) (h : History) (es fs : List Event) (bytes n : List ℕ) (x : Keyed)
+pub among_reply : (o : Origin) (h : History) (es fs : List Stimulus) (bytes n : List ℕ) (x : Keyed)
     → text_replied (presented (present o (after o h es)) bytes) (outcome (present o (after o h es)) bytes n) n ≡ x ∷ []
     → IsAmong x (texts_replied o h (es ++ Given bytes n ∷ fs))
 among_reply o h [] fs bytes n x e = subst (λ xs. IsAmong x (xs ++ texts_replied o (next o h bytes n) fs)) (sym e) (inl refl)
@@ -205,7 +205,7 @@ among_opened x [] k i e = absurd i
 among_opened x (y ∷ xs) k (inl same) e = subst (λ t. IsAmong k (t ++ texts_opened xs)) (sym (sym (ap text_at same) ∙ e)) (inl refl)
 among_opened x (y ∷ xs) k (inr i) e = among_later k (text_at y) (texts_opened xs) (among_opened x xs k i e)
 
-sealed_here : (o : Origin) (seals : List Seal) (h : History) (es fs : List Event) (bytes n : List ℕ) → AreSealed o seals h (es ++ Given bytes n ∷ fs)
+sealed_here : (o : Origin) (seals : List Seal) (h : History) (es fs : List Stimulus) (bytes n : List ℕ) → AreSealed o seals h (es ++ Given bytes n ∷ fs)
     → IsAccepted o (after o h es) bytes n → HasSessionMac bytes → IsSealedBy seals bytes
 sealed_here o seals h [] fs bytes n all = all.0
 sealed_here o seals h (Given b m ∷ es) fs bytes n all = sealed_here o seals (next o h b m) es fs bytes n all.1
@@ -303,7 +303,7 @@ mac_there e y c signs =
     subst (λ (m : List ℕ). 0 < length m) (sym ((bytes_eq-Decides y.auth.hmac mac).0 same)) (hmac_some y.session.hash y.key (command_text y))
 
 -- a buffer of a run, beside all texts that are checked, and those of all replies: of this run alone, or of others too
-module _ (o : Origin) (seals : List Seal) (xs : List Opening) (checked replied : List Keyed) (es : List Event) (bytes n : List ℕ) (s : Seal) where
+module _ (o : Origin) (seals : List Seal) (xs : List Opening) (checked replied : List Keyed) (es : List Stimulus) (bytes n : List ℕ) (s : Seal) where
   abbrev pub before : History
   before = after o [] es
 
@@ -427,7 +427,7 @@ module _ (o : Origin) (seals : List Seal) (xs : List Opening) (checked replied :
 pub fewer : (checked others : List Keyed) → AreFree (checked ++ others) → AreFree checked
 fewer checked others free x y i j = free x y (among_front x checked others i) (among_front y checked others j)
 
-own_in_run : (o : Origin) (seals : List Seal) (xs : List Opening) (es fs : List Event) (bytes n : List ℕ) (s : Seal) (w : Opened)
+own_in_run : (o : Origin) (seals : List Seal) (xs : List Opening) (es fs : List Stimulus) (bytes n : List ℕ) (s : Seal) (w : Opened)
     → IsOfCallers o seals xs (es ++ Given bytes n ∷ fs) → IsAmong s seals → needs_authorization (code_for s.body) ≡ true
     → IsAmong (record { seal = s; bytes = answer o (after o [] es) bytes n }) xs → opened (waiting s) (answer o (after o [] es) bytes n) ≡ Ok w
     → IsAccepted o (after o [] es) bytes n × Spells command (sealed_command s) bytes × (is_session s.caller.handle ≡ true)
@@ -443,14 +443,14 @@ own_in_run o seals xs es fs bytes n s w run given needs tried is =
     }) needs w is in
     (r.0, r.1.0, r.1.1)
 
-pub own_reply_alone : (o : Origin) (seals : List Seal) (xs : List Opening) (es fs : List Event) (bytes n : List ℕ) (s : Seal) (w : Opened)
+pub own_reply_alone : (o : Origin) (seals : List Seal) (xs : List Opening) (es fs : List Stimulus) (bytes n : List ℕ) (s : Seal) (w : Opened)
     → IsOfCallers o seals xs (es ++ Given bytes n ∷ fs) → IsAmong s seals → needs_authorization (code_for s.body) ≡ true
     → IsAmong (record { seal = s; bytes = answer o (after o [] es) bytes n }) xs → opened (waiting s) (answer o (after o [] es) bytes n) ≡ Ok w
     → IsAccepted o (after o [] es) bytes n × Spells command (sealed_command s) bytes
 own_reply_alone o seals xs es fs bytes n s w run given needs tried is =
     let r = own_in_run o seals xs es fs bytes n s w run given needs tried is in (r.0, r.1)
 
-pub one_reply_alone : (o : Origin) (seals : List Seal) (xs : List Opening) (es fs gs : List Event) (bytes other n m : List ℕ) (s : Seal) (w v : Opened)
+pub one_reply_alone : (o : Origin) (seals : List Seal) (xs : List Opening) (es fs gs : List Stimulus) (bytes other n m : List ℕ) (s : Seal) (w v : Opened)
     → NoncesDiffer (es ++ Given bytes n ∷ fs ++ Given other m ∷ gs) → IsOfCallers o seals xs (es ++ Given bytes n ∷ fs ++ Given other m ∷ gs) → IsAmong s seals
     → needs_authorization (code_for s.body) ≡ true
     → IsAmong (record { seal = s; bytes = answer o (after o [] es) bytes n }) xs

@@ -21,8 +21,8 @@ use Rattle.tpm_model.specs.Present.{present}
 use Rattle.tpm_model.specs.Authorization.{refuse}
 use Rattle.tpm_model.specs.Actions.{action}
 use Rattle.tpm_model.specs.Answers.{next}
-use Rattle.tpm_model.specs.Runs.Event.{Given, Cycled}
-use Rattle.tpm_model.specs.Runs.{Event, after}
+use Rattle.tpm_model.specs.Runs.Stimulus.{Given, Cycled}
+use Rattle.tpm_model.specs.Runs.{Stimulus, after}
 use Rattle.tpm_model.specs.Premises.{nonces, IsApart, AreApart, least_nonce, most_nonce}
 use Rattle.tpm_hmac.specs.Among.{IsAmong}
 use Rattle.tpm_model.proofs.Accepted.{along, after_next}
@@ -31,7 +31,7 @@ use Rattle.tpm_hmac.proofs.Among.{among_later}
 
 -- ---- lists of nonces
 
-pub nonces-append : (es fs : List Event) → nonces (es ++ fs) ≡ nonces es ++ nonces fs
+pub nonces-append : (es fs : List Stimulus) → nonces (es ++ fs) ≡ nonces es ++ nonces fs
 nonces-append [] fs = refl
 nonces-append (Given bytes n ∷ es) fs = ap (λ (ns : List (List ℕ)). n ∷ ns) (nonces-append es fs)
 nonces-append (Cycled ∷ es) fs = nonces-append es fs
@@ -82,7 +82,7 @@ moved S x n ns (inl (inr e)) = inr (inl e)
 moved S x n ns (inr i) = inr (inr i)
 
 -- While a session lives, the nonce of its last step is what it was, or was handed in since.
-pub fresh : (S : List ℕ → Type 0) (o : Origin) (k : ℕ) (es : List Event) (h : History) → (lives k h ≡ true → S (last_nonce k h)) →
+pub fresh : (S : List ℕ → Type 0) (o : Origin) (k : ℕ) (es : List Stimulus) (h : History) → (lives k h ≡ true → S (last_nonce k h)) →
     lives k (after o h es) ≡ true → S (last_nonce k (after o h es)) ⊎ IsAmong (last_nonce k (after o h es)) (nonces es)
 fresh S o k [] h f l = inl (f l)
 fresh S o k (Given bytes n ∷ es) h f l =
@@ -134,12 +134,12 @@ start_by o h k (bodies.StartAuthSession s) n reply q e b =
     subst HasLength (begun_same k s q reply b) (g.0, omega (arith, g.1, digest_most s.auth_hash))
 start_by o h k _ n reply q e b = absurd (let z : ⊥ = cc in z)
 
-sound_along : (o : Origin) (k : ℕ) (es : List Event) → IsSound k (after o [] es)
+sound_along : (o : Origin) (k : ℕ) (es : List Stimulus) → IsSound k (after o [] es)
 sound_along o k es = along (IsSound k) o
     (λ h bytes n d s f. sound_by (begun k d.command.body d.reply.body) (lives k h) (clears k d.command.body || closes k d.command.auths.items)
     n (start_of k h) (λ q b. start_by o h k d.command.body n d.reply.body q s.act b) f)
     (λ h f l. absurd (let z : ⊥ = cc in z)) es [] (λ l. absurd (let z : ⊥ = cc in z))
 
 -- a session that is loaded has such a start
-pub has_length : (o : Origin) (es : List Event) (handle : ℕ) (y : Session) (x : Held o (after o [] es) handle y) → HasLength x.start.request
+pub has_length : (o : Origin) (es : List Stimulus) (handle : ℕ) (y : Session) (x : Held o (after o [] es) handle y) → HasLength x.start.request
 has_length o es handle y x = subst HasStart x.there (sound_along o (slot_of handle) es x.live)

@@ -33,8 +33,8 @@ use Rattle.tpm_model.specs.Authorization.{check_session, check_entity, evidence_
 use Rattle.tpm_model.specs.Authorization.{first_loaded, failure, Signed, command_text, needs_none, is_signed, key_for}
 use Rattle.tpm_model.specs.Authorization.{Evidence, ByMac}
 use Rattle.tpm_model.specs.Answers.{Presented, presented, Done, outcome, next}
-use Rattle.tpm_model.specs.Runs.Event.{Given, Cycled}
-use Rattle.tpm_model.specs.Runs.{Event, after}
+use Rattle.tpm_model.specs.Runs.Stimulus.{Given, Cycled}
+use Rattle.tpm_model.specs.Runs.{Stimulus, after}
 use Rattle.tpm_model.specs.Premises.{IsAccepted, HasSessionMac, nonces, AreApart, NoncesDiffer, least_nonce}
 use Rattle.tpm_hmac.specs.Among.{IsAmong}
 use Rattle.tpm_model.specs.Premises.{Keyed, keyed, mac_of, text_in, text_checked, texts_checked, NoCollision}
@@ -130,7 +130,7 @@ was_signed p bytes n d a s one is some =
 
 -- ---- its text is among those that are checked
 
-pub among_here : (o : Origin) (h : History) (es fs : List Event) (bytes n : List ℕ) (x : Keyed)
+pub among_here : (o : Origin) (h : History) (es fs : List Stimulus) (bytes n : List ℕ) (x : Keyed)
     → text_checked (presented (present o (after o h es)) bytes) ≡ x ∷ [] → IsAmong x (texts_checked o h (es ++ Given bytes n ∷ fs))
 among_here o h [] fs bytes n x e = subst (λ xs. IsAmong x (xs ++ texts_checked o (next o h bytes n) fs)) (sym e) (inl refl)
 among_here o h (Given b m ∷ es) fs bytes n x e =
@@ -163,7 +163,7 @@ pub its_slot : (a : Auth) → is_session a.session ≡ true → authorizes (slot
 its_slot a is = rw is (let same : (slot_of a.session == slot_of a.session) ≡ true = grind (arith, nat_tests) in same)
 
 -- The nonce of the session's last step before the first use differs from that before the second.
-uses_apart : (o : Origin) (es fs : List Event) (k : ℕ) (n : List ℕ) (g : History) → lives k (after o [] es) ≡ true
+uses_apart : (o : Origin) (es fs : List Stimulus) (k : ℕ) (n : List ℕ) (g : History) → lives k (after o [] es) ≡ true
     → (lives k g ≡ true → last_nonce k g ≡ n) → lives k (after o g fs) ≡ true → AreApart (nonces es ++ n ∷ nonces fs)
     → take least_nonce (last_nonce k (after o [] es)) ≢ take least_nonce (last_nonce k (after o g fs))
 uses_apart o es fs k n g before start live differ =
@@ -173,7 +173,7 @@ uses_apart o es fs k n g before start live differ =
     apart_across (nonces es) (n ∷ nonces fs) (last_nonce k h) (last_nonce k (after o g fs)) differ (elim old [ inl none ↦ absurd none | inr i ↦ i ]) new
 
 -- the nonces up to the second use
-first_nonces : (es fs gs : List Event) (bytes other n m : List ℕ) → NoncesDiffer (es ++ Given bytes n ∷ fs ++ Given other m ∷ gs)
+first_nonces : (es fs gs : List Stimulus) (bytes other n m : List ℕ) → NoncesDiffer (es ++ Given bytes n ∷ fs ++ Given other m ∷ gs)
     → AreApart (nonces es ++ n ∷ nonces fs)
 first_nonces es fs gs bytes other n m differ =
     let listed : nonces (es ++ Given bytes n ∷ fs ++ Given other m ∷ gs) ≡ (nonces es ++ n ∷ nonces fs) ++ m ∷ nonces gs =
@@ -216,7 +216,7 @@ pub record AreAlike (k : ℕ) (h j : History) : Type 0 where
   pub front : take least_nonce (last_nonce k h) ≡ take least_nonce (last_nonce k j)
 
 -- Two uses with one text, of one device or of two, are so.
-pub alike : (o p : Origin) (es gs : List Event) (bytes other n m : List ℕ) (a : Auth) (v : Used o (after o [] es) bytes n a)
+pub alike : (o p : Origin) (es gs : List Stimulus) (bytes other n m : List ℕ) (a : Auth) (v : Used o (after o [] es) bytes n a)
     (w : Used p (after p [] gs) other m a)
     → (keyed v.by.signed).text ≡ (keyed w.by.signed).text → AreAlike (slot_of a.session) (after o [] es) (after p [] gs)
 alike o p es gs bytes other n m a v w one_text =
@@ -238,7 +238,7 @@ alike o p es gs bytes other n m a v w one_text =
     }
 
 -- One command with an HMAC is not accepted twice.
-pub twice_as : (o : Origin) (es fs gs : List Event) (bytes other n m : List ℕ) (c : Command) (a : Auth)
+pub twice_as : (o : Origin) (es fs gs : List Stimulus) (bytes other n m : List ℕ) (c : Command) (a : Auth)
     → NoncesDiffer (es ++ Given bytes n ∷ fs ++ Given other m ∷ gs) → NoCollision o (es ++ Given bytes n ∷ fs ++ Given other m ∷ gs)
     → Spells command c bytes → Spells command c other → c.auths.items ≡ a ∷ [] → is_session a.session ≡ true → 0 < length a.hmac
     → IsAccepted o (after o [] es) bytes n → IsAccepted o (after o [] (es ++ Given bytes n ∷ fs)) other m → ⊥
@@ -248,7 +248,7 @@ twice_as o es fs gs bytes other n m c a differ apart spells others one is some f
     let v = used o h bytes n c a spells one is some first in
     let w = used o j other m c a others one is some second in
     let among_v =
-    subst (λ (l : List Event). IsAmong (keyed v.by.signed) (texts_checked o [] l)) (sym (append_assoc es (Given bytes n ∷ fs) (Given other m ∷ gs)))
+    subst (λ (l : List Stimulus). IsAmong (keyed v.by.signed) (texts_checked o [] l)) (sym (append_assoc es (Given bytes n ∷ fs) (Given other m ∷ gs)))
     (among_here o [] es (fs ++ Given other m ∷ gs) bytes n (keyed v.by.signed) v.checked) in
     let among_w = among_here o [] (es ++ Given bytes n ∷ fs) gs other m (keyed w.by.signed) w.checked in
     let one_text = apart (keyed v.by.signed) (keyed w.by.signed) among_v among_w (sym v.by.mac ∙ w.by.mac) in
@@ -263,7 +263,7 @@ twice_as o es fs gs bytes other n m c a differ apart spells others one is some f
     (subst (λ (l : History). lives k l ≡ true) there both.second) (first_nonces es fs gs bytes other n m differ)
     (both.front ∙ ap (λ (l : History). take least_nonce (last_nonce k l)) there)
 
-pub twice : (o : Origin) (es fs gs : List Event) (bytes n m : List ℕ)
+pub twice : (o : Origin) (es fs gs : List Stimulus) (bytes n m : List ℕ)
     → NoncesDiffer (es ++ Given bytes n ∷ fs ++ Given bytes m ∷ gs) → NoCollision o (es ++ Given bytes n ∷ fs ++ Given bytes m ∷ gs) → HasSessionMac bytes
     → IsAccepted o (after o [] es) bytes n → IsAccepted o (after o [] (es ++ Given bytes n ∷ fs)) bytes m → ⊥
 twice o es fs gs bytes n m differ apart (c, a, spells, one, is, some) = twice_as o es fs gs bytes bytes n m c a differ apart spells spells one is some

@@ -16,8 +16,8 @@ use Rattle.tpm_model.specs.Counters.{NvMemory, defined, nv_by, nv_memory, value_
 use Rattle.tpm_model.specs.Kept.{is_above, check_counters, IsFair}
 use Rattle.tpm_model.specs.Present.{present}
 use Rattle.tpm_model.specs.Answers.{Done, outcome, next}
-use Rattle.tpm_model.specs.Runs.Event.{Given}
-use Rattle.tpm_model.specs.Runs.{Event, after}
+use Rattle.tpm_model.specs.Runs.Stimulus.{Given}
+use Rattle.tpm_model.specs.Runs.{Stimulus, after}
 use Rattle.tpm_model.specs.Actions.{defined_counter, increment, then_reply, action}
 use Rattle.tpm_model.proofs.Accepted.{passed, along, next_is, was_some}
 use Rattle.tpm_model.proofs.Kept.{checked}
@@ -116,7 +116,7 @@ kept_by P k i (bodies.NvIncrement by index) nv f =
     ]
 kept_by P k i _ nv f = f
 
-pub kept_along : (P : ℕ → Option ℕ → Type 0) → IsKept P → (o : Origin) (i : ℕ) (es : List Event) (h : History) → HoldsOf P i (nv_memory o h)
+pub kept_along : (P : ℕ → Option ℕ → Type 0) → IsKept P → (o : Origin) (i : ℕ) (es : List Stimulus) (h : History) → HoldsOf P i (nv_memory o h)
     → HoldsOf P i (nv_memory o (after o h es))
 kept_along P k o i = along (λ h. HoldsOf P i (nv_memory o h)) o (λ h bytes n d s f. kept_by P k i d.command.body (nv_memory o h) f) (λ h f. f)
 
@@ -187,14 +187,14 @@ pub given_by : (o : Origin) (h : History) (bytes n : List ℕ) (d : Done) (by : 
 given_by o h bytes n d by i e is =
     ap (λ (g : History). value_at o g i) (next_is o h bytes n d e) ∙ gives_next o h i by n d (passed (present o h) bytes n d e).act is
 
--- what it has after the events and the buffer
-left_by : (o : Origin) (es : List Event) (bytes n : List ℕ) (d : Done) (by : NvAuthHandle) (i : ℕ)
+-- what it has after the stimuli and the buffer
+left_by : (o : Origin) (es : List Stimulus) (bytes n : List ℕ) (d : Done) (by : NvAuthHandle) (i : ℕ)
     → outcome (present o (after o [] es)) bytes n ≡ Ok d → d.command.body ≡ bodies.NvIncrement by i
     → value_at o (after o [] (es ++ Given bytes n ∷ [])) i ≡ Some (next_value (greatest_at o (after o [] es)) (value_at o (after o [] es) i))
 left_by o es bytes n d by i e is =
     ap (λ (g : History). value_at o g i) (after-append o [] es (Given bytes n ∷ [])) ∙ given_by o (after o [] es) bytes n d by i e is
 
-pub more_than_had : (o : Origin) (es fs : List Event) (bytes n : List ℕ) (d : Done) (by : NvAuthHandle) (i w : ℕ)
+pub more_than_had : (o : Origin) (es fs : List Stimulus) (bytes n : List ℕ) (d : Done) (by : NvAuthHandle) (i w : ℕ)
     → IsFair o.nv → value_at o (after o [] es) i ≡ Some w
     → outcome (present o (after o [] (es ++ fs))) bytes n ≡ Ok d → d.command.body ≡ bodies.NvIncrement by i
     → (v : ℕ) × (value_at o (after o [] (es ++ fs ++ Given bytes n ∷ [])) i ≡ Some v) × (w < v)
@@ -208,7 +208,7 @@ more_than_had o es fs bytes n d by i w fair had e is =
       (subst (λ (l : History). HoldsOf (IsFloor w) i (nv_memory o l)) (sym (after-append o [] es fs)) held).1,
     )
 
-pub more_than_made : (o : Origin) (es : List Event) (bytes n : List ℕ) (d : Done) (by : NvAuthHandle) (i : ℕ)
+pub more_than_made : (o : Origin) (es : List Stimulus) (bytes n : List ℕ) (d : Done) (by : NvAuthHandle) (i : ℕ)
     → value_at o [] i ≡ None → outcome (present o (after o [] es)) bytes n ≡ Ok d → d.command.body ≡ bodies.NvIncrement by i
     → (v : ℕ) × (value_at o (after o [] (es ++ Given bytes n ∷ [])) i ≡ Some v) × (o.nv.greatest < v)
 more_than_made o es bytes n d by i none e is =

@@ -7,9 +7,9 @@ use Rattle.tpm_model.specs.Changes.{changes}
 use Rattle.tpm_pcr.specs.Registers.{update_counter}
 use Rattle.tpm_model.specs.Counters.{value_at}
 use Rattle.tpm_model.specs.Answers.{answer}
-use Rattle.tpm_model.specs.Runs.Event.{Given, Cycled}
-use Rattle.tpm_model.specs.Runs.{Event, after}
-use Rattle.tpm_model.specs.Lives.{Life, executed, origin_behind}
+use Rattle.tpm_model.specs.Runs.Stimulus.{Given, Cycled}
+use Rattle.tpm_model.specs.Runs.{Stimulus, after}
+use Rattle.tpm_model.specs.Lives.{Life, executed, origin_after}
 
 -- ---- bytes in hexadecimal, with spaces for reading
 
@@ -40,7 +40,7 @@ nonce_front k = replicate 15 0 ++ k ∷ []
 abbrev pub nonce : ℕ → List ℕ
 nonce k = nonce_front k ++ nonce_front k ++ nonce_front k ++ nonce_front k
 
-abbrev pub given : ℕ → List (List ℕ) → List Event
+abbrev pub given : ℕ → List (List ℕ) → List Stimulus
 given k [] = []
 given k (b ∷ bs) = Given b (nonce k) ∷ given (k + 1) bs
 
@@ -118,7 +118,7 @@ cut_life = record { kept = given 1 (startup ∷ nv_define ∷ nv_increment ∷ [
 
 -- the device that is made again after it
 abbrev pub cut_off : Origin
-cut_off = origin_behind new cut_life
+cut_off = origin_after new cut_life
 
 -- ---- answers
 

@@ -8,26 +8,26 @@ use Rattle.tpm_model.specs.Counters.{nv_memory, value_at}
 use Rattle.tpm_model.specs.Present.{present}
 use Rattle.tpm_model.specs.Answers.{Done, outcome, answer, next}
 use Rattle.tpm_model.specs.Callers.{Seal}
-use Rattle.tpm_model.specs.Runs.Event.{Given, Cycled}
-use Rattle.tpm_model.specs.Runs.{Event, after}
+use Rattle.tpm_model.specs.Runs.Stimulus.{Given, Cycled}
+use Rattle.tpm_model.specs.Runs.{Stimulus, after}
 use Rattle.tpm_model.specs.Premises.{IsAccepted, HasSessionMac, NoncesDiffer, Keyed, texts_checked, AreFree}
 use Rattle.tpm_model.specs.Premises.{IsSealedBy, SealsDiffer, texts_replied, Opening, texts_opened}
 use Rattle.tpm_hmac.specs.Among.{IsAmong}
 
--- A run of a device, until it loses its power. Each response that was handed out is to one of the kept events, and the
--- next life begins from the NV memory after them. The lost events were executed behind them, and their responses were
+-- A run of a device, until it loses its power. Each response that was handed out is to one of the kept stimuli, and the
+-- next life begins from the NV memory after them. The lost stimuli were executed after them, and their responses were
 -- not handed out.
 pub record Life : Type 0 where
-  pub kept : List Event
-  pub lost : List Event
+  pub kept : List Stimulus
+  pub lost : List Stimulus
 
 -- all that was executed in a life
-abbrev pub executed : Life → List Event
+abbrev pub executed : Life → List Stimulus
 executed life = life.kept ++ life.lost
 
--- of the device that is made for the next life: the same owner's value, and the NV memory after the kept events
-abbrev pub origin_behind : Origin → Life → Origin
-origin_behind o life = record o { nv = nv_memory o (after o [] life.kept) }
+-- of the device that is made for the next life: the same owner's value, and the NV memory after the kept stimuli
+abbrev pub origin_after : Origin → Life → Origin
+origin_after o life = record o { nv = nv_memory o (after o [] life.kept) }
 
 -- ---- the buffers that were executed
 
@@ -38,23 +38,23 @@ pub record Execution : Type 0 where
   pub bytes : List ℕ
   pub nonce : List ℕ
 
--- those of events, the first of them first
-abbrev pub executions_of : Origin → History → List Event → List Execution
+-- those of stimuli, the first of them first
+abbrev pub executions_of : Origin → History → List Stimulus → List Execution
 executions_of o h [] = []
 executions_of o h (Given bytes nonce ∷ es) =
     record { origin = o; history = h; bytes = bytes; nonce = nonce } ∷ executions_of o (next o h bytes nonce) es
 executions_of o h (Cycled ∷ es) = executions_of o (PowerCycle ∷ h) es
 
 -- those of one part of each life
-abbrev pub executions_in : (Life → List Event) → Origin → List Life → List Execution
+abbrev pub executions_in : (Life → List Stimulus) → Origin → List Life → List Execution
 executions_in part o [] = []
-executions_in part o (life ∷ lives) = executions_of o [] (part life) ++ executions_in part (origin_behind o life) lives
+executions_in part o (life ∷ lives) = executions_of o [] (part life) ++ executions_in part (origin_after o life) lives
 
 -- all of them
 abbrev pub executions : Origin → List Life → List Execution
 executions = executions_in executed
 
--- those of the kept events: each whose response was handed out is one of them
+-- those of the kept stimuli: each whose response was handed out is one of them
 abbrev pub kept_executions : Origin → List Life → List Execution
 kept_executions = executions_in (λ life. life.kept)
 
@@ -82,9 +82,9 @@ abbrev pub NoncesDifferOver : List Life → Type 0
 NoncesDifferOver lives = NoncesDiffer (flat_map executed lives)
 
 -- the texts of all lives, by those of a run
-abbrev pub texts_over : (Origin → History → List Event → List Keyed) → Origin → List Life → List Keyed
+abbrev pub texts_over : (Origin → History → List Stimulus → List Keyed) → Origin → List Life → List Keyed
 texts_over texts o [] = []
-texts_over texts o (life ∷ lives) = texts o [] (executed life) ++ texts_over texts (origin_behind o life) lives
+texts_over texts o (life ∷ lives) = texts o [] (executed life) ++ texts_over texts (origin_after o life) lives
 
 -- No two different texts whose HMACs are checked in all lives have the same HMAC.
 abbrev pub NoCollisionOver : Origin → List Life → Type 0

@@ -31,8 +31,8 @@ use Rattle.tpm_model.specs.Authorization.{Signed, command_text, needs_none, Evid
 use Rattle.tpm_model.specs.Answers.{code_only, by_grammar, Presented, presented, Done, outcome, next, reply_params}
 use Rattle.tpm_model.specs.InStep.{CallerSession, InStep}
 use Rattle.tpm_model.specs.Callers.{Seal, sealed_command, sealed, Waiting, waiting, Opened, with_nonce, awaited_text}
-use Rattle.tpm_model.specs.Runs.Event.{Given, Cycled}
-use Rattle.tpm_model.specs.Runs.{Event}
+use Rattle.tpm_model.specs.Runs.Stimulus.{Given, Cycled}
+use Rattle.tpm_model.specs.Runs.{Stimulus}
 use Rattle.tpm_hmac.specs.Among.{IsAmong}
 
 -- ---- cuts
@@ -68,7 +68,7 @@ HasSessionMac bytes =
 -- ---- nonces
 
 -- the nonces handed in
-abbrev pub nonces : List Event → List (List ℕ)
+abbrev pub nonces : List Stimulus → List (List ℕ)
 nonces [] = []
 nonces (Given bytes nonce ∷ es) = nonce ∷ nonces es
 nonces (Cycled ∷ es) = nonces es
@@ -87,7 +87,7 @@ AreApart [] = Unit {0}
 AreApart (n ∷ ns) = IsApart n ns × AreApart ns
 
 -- The nonces handed in are pairwise different in their first 16 bytes.
-abbrev pub NoncesDiffer : List Event → Type 0
+abbrev pub NoncesDiffer : List Stimulus → Type 0
 NoncesDiffer es = AreApart (nonces es)
 
 -- ---- texts
@@ -115,7 +115,7 @@ text_checked (Ok x) = text_in x.evidence
 text_checked (Err code) = []
 
 -- the texts whose HMACs are checked in a run
-abbrev pub texts_checked : Origin → History → List Event → List Keyed
+abbrev pub texts_checked : Origin → History → List Stimulus → List Keyed
 texts_checked o h [] = []
 texts_checked o h (Given bytes nonce ∷ es) =
     text_checked (presented (present o h) bytes) ++ (texts_checked o (next o h bytes nonce) es)
@@ -126,7 +126,7 @@ abbrev pub AreFree : List Keyed → Type 0
 AreFree texts = (x y : Keyed) → IsAmong x texts → IsAmong y texts → mac_of x ≡ mac_of y → x.text ≡ y.text
 
 -- those that are checked in a device's run from this origin
-abbrev pub NoCollision : Origin → List Event → Type 0
+abbrev pub NoCollision : Origin → List Stimulus → Type 0
 NoCollision o es = AreFree (texts_checked o [] es)
 
 -- ---- a caller and a device
@@ -178,7 +178,7 @@ IsSealedBy seals bytes = (s : Seal) × IsAmong s seals × Spells command (sealed
 
 -- Each buffer that is accepted, and whose session is an HMAC or policy session with a nonempty HMAC, is sealed by one
 -- of these.
-abbrev pub AreSealed : Origin → List Seal → History → List Event → Type 0
+abbrev pub AreSealed : Origin → List Seal → History → List Stimulus → Type 0
 AreSealed o seals h [] = Unit {0}
 AreSealed o seals h (Given bytes nonce ∷ es) =
     (IsAccepted o h bytes nonce → HasSessionMac bytes → IsSealedBy seals bytes)
@@ -213,7 +213,7 @@ text_replied (Ok x) (Ok d) nonce = text_by x.evidence x.code (reply_params d.rep
 text_replied _ _ nonce = []
 
 -- the texts of the HMACs of the replies in a run
-abbrev pub texts_replied : Origin → History → List Event → List Keyed
+abbrev pub texts_replied : Origin → History → List Stimulus → List Keyed
 texts_replied o h [] = []
 texts_replied o h (Given bytes nonce ∷ es) =
     text_replied (presented (present o h) bytes) (outcome (present o h) bytes nonce) nonce
@@ -244,12 +244,12 @@ texts_opened (x ∷ xs) =
 
 -- The same of the texts that are checked in a device's run from this origin, those of its replies, and those that
 -- opening checks.
-abbrev pub NoCollisionWith : Origin → List Event → List Opening → Type 0
+abbrev pub NoCollisionWith : Origin → List Stimulus → List Opening → Type 0
 NoCollisionWith o es xs = AreFree (texts_checked o [] es ++ (texts_replied o [] es ++ texts_opened xs))
 
 -- A device's run from this origin: its accepted commands with session HMACs are sealed by callers, the nonceCallers
 -- are pairwise different, and no two different texts have the same HMAC.
-pub record IsOfCallers (o : Origin) (seals : List Seal) (xs : List Opening) (es : List Event) : Type 0 where
+pub record IsOfCallers (o : Origin) (seals : List Seal) (xs : List Opening) (es : List Stimulus) : Type 0 where
   pub sealed : AreSealed o seals [] es
   pub differ : SealsDiffer seals
   pub no_collision : NoCollisionWith o es xs

@@ -31,8 +31,8 @@ ghost use Rattle.tpm_model.specs.NvChanges.{changes_nv};
 ghost use Rattle.tpm_model.specs.InStep.{CallerSession, InStep};
 ghost use Rattle.tpm_model.specs.Callers.{started_with, Seal, sealed_command, sealed, waiting, Code, Opened, opened};
 ghost use Rattle.tpm_model.specs.Callers.{given_up};
-ghost use Rattle.tpm_model.specs.Runs.Event.{Given, Cycled};
-ghost use Rattle.tpm_model.specs.Runs.{Event, after, run};
+ghost use Rattle.tpm_model.specs.Runs.Stimulus.{Given, Cycled};
+ghost use Rattle.tpm_model.specs.Runs.{Stimulus, after, run};
 ghost use Rattle.tpm_model.specs.Lives.{Life, Execution, executions, kept_executions, WasAccepted, Increments};
 ghost use Rattle.tpm_model.specs.Lives.{value_after, reply_to, NoncesDifferOver, NoCollisionOver, IsOfCallersOver};
 ghost use Rattle.tpm_model.specs.Examples.{Examples};
@@ -61,7 +61,7 @@ pub fn accepted_is_spelled()
 /// No replay: in a run, where the nonces handed in differ pairwise in their first 16 bytes and no two different texts
 /// that are checked have the same HMAC, no buffer with an HMAC is accepted twice.
 pub fn no_replay()
-    ensures { (o : Origin) (es fs gs : List Event) (bytes n m : List ℕ) →
+    ensures { (o : Origin) (es fs gs : List Stimulus) (bytes n m : List ℕ) →
         NoncesDiffer (es ++ Given bytes n ∷ fs ++ Given bytes m ∷ gs) →
         NoCollision o (es ++ Given bytes n ∷ fs ++ Given bytes m ∷ gs) →
         HasSessionMac bytes →
@@ -74,7 +74,7 @@ pub fn no_replay()
 /// value greater than each that the index had before, at the origin too. Where the index had none there, it is
 /// greater than the origin's greatest value. What was undefined, defined again or cycled in between changes nothing.
 pub fn no_counter_goes_back()
-    ensures had { (o : Origin) (es fs : List Event) (bytes n : List ℕ) →
+    ensures had { (o : Origin) (es fs : List Stimulus) (bytes n : List ℕ) →
         (d : Done) (by : NvAuthHandle) (i w : ℕ) →
         IsFair o.nv →
         value_at o (after o [] es) i ≡ Some w →
@@ -83,7 +83,7 @@ pub fn no_counter_goes_back()
         (v : ℕ)
         × (value_at o (after o [] (es ++ fs ++ Given bytes n ∷ [])) i ≡ Some v)
         × (w < v) }
-    ensures made { (o : Origin) (es : List Event) (bytes n : List ℕ) →
+    ensures made { (o : Origin) (es : List Stimulus) (bytes n : List ℕ) →
         (d : Done) (by : NvAuthHandle) (i : ℕ) →
         value_at o [] i ≡ None →
         outcome (present o (after o [] es)) bytes n ≡ Ok d →
@@ -109,7 +109,7 @@ pub fn no_replay_over_lives()
 {}
 
 /// No counter goes back over a device's lives: where its NV memory was fair at its first origin, and an index has a
-/// value after a kept event, a later kept increment leaves a greater one, in the same life or in another. So it is
+/// value after a kept stimulus, a later kept increment leaves a greater one, in the same life or in another. So it is
 /// for a value that the index had at the first origin. Where it had none there, each kept increment leaves more than
 /// the first origin's greatest value. What was lost, undefined, defined again or cycled in between changes nothing.
 pub fn no_counter_goes_back_over_lives()
@@ -140,14 +140,14 @@ pub fn no_counter_goes_back_over_lives()
 pub fn nv_memory_stays_fair()
     ensures new { (greatest : ℕ) → IsFair (new_nv greatest) }
     ensures spelled { (nv : NvMemory) (bytes : List ℕ) → Spells kept_memory nv bytes → IsFair nv }
-    ensures stays { (o : Origin) (es : List Event) →
+    ensures stays { (o : Origin) (es : List Stimulus) →
         IsFair o.nv →
         IsFair (nv_memory o (after o [] es)) }
 {}
 
 /// A device that is kept: what is made of the owner's value and of the bytes of a device's NV memory is what a
 /// power cycle leaves of that device. So making it again is one power cycle of a run: the answers and the
-/// history go on behind it, and what holds of every run holds across it.
+/// history go on after it, and what holds of every run holds across it.
 pub fn restored_is_cycled()
     ensures stands { (o : Origin) (h : History) (nv : NvMemory) (bytes : List ℕ) →
         Spells kept_memory (nv_memory o h) bytes →
@@ -155,7 +155,7 @@ pub fn restored_is_cycled()
         restored o.owner nv ≡ present o (PowerCycle ∷ h) }
     ensures begins { (owner : List ℕ) (nv : NvMemory) →
         restored owner nv ≡ present (record { owner = owner; nv = nv }) [] }
-    ensures runs { (o : Origin) (es fs : List Event) (nv : NvMemory) (bytes : List ℕ) →
+    ensures runs { (o : Origin) (es fs : List Stimulus) (nv : NvMemory) (bytes : List ℕ) →
         Spells kept_memory (nv_memory o (after o [] es)) bytes →
         Spells kept_memory nv bytes →
         (restored o.owner nv ≡ present o (after o [] (es ++ Cycled ∷ [])))
@@ -247,7 +247,7 @@ pub fn in_step()
 /// its own buffer, and there is one such reply.
 pub fn no_mixed_replies()
     ensures own { (o : Origin) (seals : List Seal) (openings : List Opening) →
-        (es fs : List Event) (bytes n : List ℕ) (s : Seal) (w : Opened) →
+        (es fs : List Stimulus) (bytes n : List ℕ) (s : Seal) (w : Opened) →
         IsOfCallers o seals openings (es ++ Given bytes n ∷ fs) →
         IsAmong s seals →
         needs_authorization (code_for s.body) ≡ true →
@@ -255,7 +255,7 @@ pub fn no_mixed_replies()
         opened (waiting s) (answer o (after o [] es) bytes n) ≡ Ok w →
         IsAccepted o (after o [] es) bytes n × Spells command (sealed_command s) bytes }
     ensures once { (o : Origin) (seals : List Seal) (openings : List Opening) →
-        (es fs gs : List Event) (bytes other n m : List ℕ) (s : Seal) (w v : Opened) →
+        (es fs gs : List Stimulus) (bytes other n m : List ℕ) (s : Seal) (w v : Opened) →
         NoncesDiffer (es ++ Given bytes n ∷ fs ++ Given other m ∷ gs) →
         IsOfCallers o seals openings (es ++ Given bytes n ∷ fs ++ Given other m ∷ gs) →
         IsAmong s seals →

@@ -5,7 +5,7 @@ ghost use Rattle.std.specs.Fmt.{decimal};
 ghost use Rattle.tpm_names.specs.Codes.{code_of_name, meaning_of, name_in, subject_number, subject_of, subject_text};
 ghost use Rattle.tpm_names.specs.Meanings.{meaning_as};
 
-use crate::meaning::{Meaning, look_up, look_up_name};
+use crate::meaning::{Meaning, Row, look_up, look_up_name};
 use crate::meanings;
 
 /// Set in a code with the number of a handle, session or parameter (Part 2, 6.6.2).
@@ -18,7 +18,7 @@ const PARAMETER: u32 = 0x40;
 const SESSION: u32 = 0x800;
 
 // Codes without a number: success, those of TPM 1.2, errors and warnings (Part 2, 6.6.3).
-const WITHOUT_NUMBER: [Meaning; 65] = meanings![
+const WITHOUT_NUMBER: [Row; 65] = meanings![
     0x000 "SUCCESS" "the command succeeded",
     0x01e "BAD_TAG" "the tag of the command is not a tag of TPM 2.0",
     0x100 "INITIALIZE" "the TPM has not been started, or was started already",
@@ -87,7 +87,7 @@ const WITHOUT_NUMBER: [Meaning; 65] = meanings![
 ];
 
 // The lowest six bits of codes with the number of a handle, session or parameter.
-const WITH_NUMBER: [Meaning; 33] = meanings![
+const WITH_NUMBER: [Row; 33] = meanings![
     0x01 "ASYMMETRIC" "the asymmetric algorithm is not supported or not correct",
     0x02 "ATTRIBUTES" "the attributes do not agree",
     0x03 "HASH" "the hash algorithm is not supported or not right here",
@@ -124,8 +124,8 @@ const WITH_NUMBER: [Meaning; 33] = meanings![
 ];
 
 /// What a response code says, whatever its number.
-pub fn code_meaning(code: u32) -> Option<&'static Meaning>
-    ensures { option_map (λ m. meaning_as m.now) result ≡ meaning_of code }
+pub fn code_meaning(code: u32) -> Option<Meaning>
+    ensures { option_map meaning_as result ≡ meaning_of code }
 {
     if code & FORMAT_ONE == 0 {
         return look_up(&WITHOUT_NUMBER, code);

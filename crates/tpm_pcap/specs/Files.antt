@@ -14,8 +14,8 @@ use Rattle.tpm_pcap.specs.Numbers.{number4_in}
 use Rattle.tpm_pcap.specs.Pcapng.{block_in}
 use Rattle.tpm_pcap.specs.Savefiles.{record_in}
 use Rattle.tpm_pcap.specs.Sections.{Section, new_section, with_interface, packet_time, simple_packet}
-use Rattle.tpm_pcap.specs.Sections.{found_of}
-use Rattle.tpm_pcap.specs.Talks.{Talk, new_talk, after_found, found_told, unfinished}
+use Rattle.tpm_pcap.specs.Sections.{carried_of}
+use Rattle.tpm_pcap.specs.Talks.{Talk, new_talk, after_carried, carried_told, unfinished}
 use Rattle.tpm_pcap.specs.Blocks as blocks
 use Rattle.tpm_pcap.specs.Pcapng as pcapng
 use Rattle.tpm_pcap.specs.Savefiles as savefile
@@ -36,13 +36,13 @@ reader_of port s = record { port = port; section = s; talk = new_talk; packet = 
 -- ---- a block
 
 abbrev pub after_packet : Reader → Packet → Reader
-after_packet r p = record r { talk = after_found r.talk (found_of r.port r.section p); packet = r.packet + 1 }
+after_packet r p = record r { talk = after_carried r.talk (carried_of r.port r.section p); packet = r.packet + 1 }
 
 abbrev pub packet_stamp : Reader → Packet → Stamp
 packet_stamp r p = record { packet = r.packet; time = packet_time r.section p }
 
 abbrev pub packet_told : Reader → Packet → List Entry
-packet_told r p = found_told (packet_stamp r p) r.talk (found_of r.port r.section p)
+packet_told r p = carried_told (packet_stamp r p) r.talk (carried_of r.port r.section p)
 
 -- A new section has interfaces of its own.
 abbrev pub after_block : Reader → Block → Reader

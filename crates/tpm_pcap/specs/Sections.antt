@@ -8,7 +8,7 @@ use Rattle.tpm_pcap.specs.declared.block.Ticks.{Ticks}
 use Rattle.tpm_pcap.specs.declared.link.Link.{Link}
 use Rattle.tpm_pcap.specs.declared.numbers.Order.{Order}
 use Rattle.tpm_pcap.specs.Blocks.{Packet}
-use Rattle.tpm_pcap.specs.Segments.{Found, found_by}
+use Rattle.tpm_pcap.specs.Segments.{Carried, carried_by}
 use Rattle.tpm_pcap.specs.Times.{time_of}
 
 pub record Section : Type 0 where
@@ -51,7 +51,7 @@ time_on (Some interface) ticks = time_of interface.per_second ticks
 abbrev pub packet_time : Section → Packet → Option ℕ
 packet_time s p = time_on (slice_get s.interfaces p.interface) p.ticks
 
--- what is found in a packet, of a simulator on this port
-abbrev pub found_of : (port : ℕ) → Section → Packet → Found
-found_of port s p = found_by (link_of_interface (slice_get s.interfaces p.interface))
+-- what a packet carries, of a simulator on this port
+abbrev pub carried_of : (port : ℕ) → Section → Packet → Carried
+carried_of port s p = carried_by (link_of_interface (slice_get s.interfaces p.interface))
     (record { port = port; whole = length p.bytes == p.size }) p.bytes

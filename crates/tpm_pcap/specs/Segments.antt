@@ -20,12 +20,12 @@ pub record Segment : Type 0 where
   pub payload : List ℕ
 
 -- nothing of the port; too little of it was captured; a part of a packet; a link that is not known; a segment
-pub data Found : Type 0 where
-  Other : Found
-  Lacking : Found
-  Fragment : Found
-  UnknownLink : Found
-  OnPort : Segment → Found
+pub data Carried : Type 0 where
+  Other : Carried
+  Lacking : Carried
+  Fragment : Carried
+  UnknownLink : Carried
+  OnPort : Segment → Carried
 
 -- the addresses of a packet
 pub record Ends : Type 0 where
@@ -33,7 +33,7 @@ pub record Ends : Type 0 where
   pub target : List ℕ
 
 -- The packet ends before a header does. So it is, or so it was captured.
-abbrev pub lacking : (whole : Bool) → Found
+abbrev pub lacking : (whole : Bool) → Carried
 lacking true = Other
 lacking false = Lacking
 
@@ -64,7 +64,7 @@ abbrev pub is_on_port : (port : ℕ) → List ℕ → Bool
 is_on_port port tcp = number2 tcp 0 == port || number2 tcp 2 == port
 
 -- in so many bytes of TCP, of which these were captured
-unfoldable pub in_tcp : Sought → Ends → (size : ℕ) → List ℕ → Found
+unfoldable pub in_tcp : Sought → Ends → (size : ℕ) → List ℕ → Carried
 in_tcp sought ends size tcp =
     if nat_lt (length tcp) 20 then lacking sought.whole
     else if not (is_on_port sought.port tcp) then Other
@@ -75,7 +75,7 @@ in_tcp sought ends size tcp =
 
 -- in a packet of IPv4: Protocol is TCP, it is no fragment (More Fragments and Fragment Offset are 0), and Total Length
 -- says how many bytes it has
-unfoldable pub in_version4 : Sought → List ℕ → Found
+unfoldable pub in_version4 : Sought → List ℕ → Carried
 in_version4 sought bytes =
     if nat_lt (length bytes) 20 then lacking sought.whole
     else if not (slice_index bytes 9 == 6) then Other
@@ -84,11 +84,11 @@ in_version4 sought bytes =
     (number2 bytes 2 - (slice_index bytes 0 % 16) * 4) (drop ((slice_index bytes 0 % 16) * 4) bytes)
 
 -- a fragment of IPv6, by the protocol of what it is a part of
-abbrev pub fragment : ℕ → Found
+abbrev pub fragment : ℕ → Carried
 fragment protocol = if protocol == 6 then Fragment else Other
 
 -- in a packet of IPv6: Next Header is TCP, or a fragment of that
-unfoldable pub in_version6 : Sought → List ℕ → Found
+unfoldable pub in_version6 : Sought → List ℕ → Carried
 in_version6 sought bytes =
     if nat_lt (length bytes) 40 then lacking sought.whole
     else if slice_index bytes 6 == 44 then fragment (slice_index bytes 40)
@@ -96,7 +96,7 @@ in_version6 sought bytes =
     else in_tcp sought (record { source = take 16 (drop 8 bytes); target = take 16 (drop 24 bytes) }) (number2 bytes 4)
     (drop 40 bytes)
 
-unfoldable pub in_internet : Sought → List ℕ → Found
+unfoldable pub in_internet : Sought → List ℕ → Carried
 in_internet sought bytes =
     if slice_index bytes 0 / 16 == 4 then in_version4 sought bytes
     else if slice_index bytes 0 / 16 == 6 then in_version6 sought bytes
@@ -106,12 +106,12 @@ in_internet sought bytes =
 -- ---- a packet
 
 -- in a packet of this kind of link, all of which was captured or not
-unfoldable pub found_in : Link → Sought → List ℕ → Found
-found_in link sought bytes =
+unfoldable pub carried_in : Link → Sought → List ℕ → Carried
+carried_in link sought bytes =
     if nat_lt (length bytes) (head_size link) then lacking sought.whole
     else if not (carries_internet link bytes) then Other
     else in_internet sought (drop (head_size link) bytes)
 
-abbrev pub found_by : Option Link → Sought → List ℕ → Found
-found_by None sought bytes = UnknownLink
-found_by (Some link) sought bytes = found_in link sought bytes
+abbrev pub carried_by : Option Link → Sought → List ℕ → Carried
+carried_by None sought bytes = UnknownLink
+carried_by (Some link) sought bytes = carried_in link sought bytes

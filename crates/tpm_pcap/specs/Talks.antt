@@ -5,7 +5,7 @@ use Rattle.std.specs.Str.{bytes_eq}
 use Rattle.tpm_pcap.specs.declared.entry.Reason.TheVariants as reasons
 use Rattle.tpm_pcap.specs.declared.entry.Stamp.{Stamp}
 use Rattle.tpm_pcap.specs.Entries.{Entry, Connection, Untold}
-use Rattle.tpm_pcap.specs.Segments.{Found, Other, Lacking, Fragment, UnknownLink, OnPort, Segment}
+use Rattle.tpm_pcap.specs.Segments.{Carried, Other, Lacking, Fragment, UnknownLink, OnPort, Segment}
 use Rattle.tpm_pcap.specs.Ways.{Way, new_way, after_segment, segment_told}
 
 -- the client's address, the simulator's and the client's port, and both ways
@@ -56,16 +56,16 @@ matter_told stamp t s =
 
 -- ---- a packet
 
-abbrev pub after_found : Talk → Found → Talk
-after_found t Other = t
-after_found t Lacking = t
-after_found t Fragment = t
-after_found t UnknownLink = t
-after_found t (OnPort s) = if matters s then after_matter t s else t
+abbrev pub after_carried : Talk → Carried → Talk
+after_carried t Other = t
+after_carried t Lacking = t
+after_carried t Fragment = t
+after_carried t UnknownLink = t
+after_carried t (OnPort s) = if matters s then after_matter t s else t
 
-abbrev pub found_told : Stamp → Talk → Found → List Entry
-found_told stamp t Other = []
-found_told stamp t Lacking = Untold stamp.packet reasons.CutShort ∷ []
-found_told stamp t Fragment = Untold stamp.packet reasons.Fragment ∷ []
-found_told stamp t UnknownLink = Untold stamp.packet reasons.UnknownLink ∷ []
-found_told stamp t (OnPort s) = if matters s then matter_told stamp t s else []
+abbrev pub carried_told : Stamp → Talk → Carried → List Entry
+carried_told stamp t Other = []
+carried_told stamp t Lacking = Untold stamp.packet reasons.CutShort ∷ []
+carried_told stamp t Fragment = Untold stamp.packet reasons.Fragment ∷ []
+carried_told stamp t UnknownLink = Untold stamp.packet reasons.UnknownLink ∷ []
+carried_told stamp t (OnPort s) = if matters s then matter_told stamp t s else []

@@ -81,12 +81,12 @@ impl<'a> Reader<'a> {
             × (entries_as entries.new.items ≡ entries_as entries.old.items
             ++ packet_told (reader_as self.old) (packet_as packet.now))) }
     {
-        let found = self.section.found_of(self.port, packet);
+        let carried = self.section.carried_of(self.port, packet);
         let stamp = Stamp {
             packet: self.packet,
             time: self.section.time_of(packet),
         };
-        self.talk.take(alloc, stamp, &found, entries)?;
+        self.talk.take(alloc, stamp, &carried, entries)?;
         self.packet += 1;
         Ok(())
     }

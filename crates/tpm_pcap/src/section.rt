@@ -2,14 +2,14 @@
 
 ghost use Rattle.std.specs.Prelude.{◌≡◌, slice_get};
 ghost use Rattle.tpm_pcap.specs.inner.Blocks.{packet_as};
-ghost use Rattle.tpm_pcap.specs.Sections.{found_of, new_section, packet_time, simple_packet};
+ghost use Rattle.tpm_pcap.specs.Sections.{carried_of, new_section, packet_time, simple_packet};
 ghost use Rattle.tpm_pcap.specs.inner.Sections.{section_as};
 ghost use Rattle.tpm_pcap.specs.Sections.{with_interface};
-ghost use Rattle.tpm_pcap.specs.inner.Segments.{found_as, IsSmall};
+ghost use Rattle.tpm_pcap.specs.inner.Segments.{carried_as, IsSmall};
 
 use crate::block::{Interface, Packet, Ticks};
 use crate::numbers::Order;
-use crate::segment::{Found, Sought, found_by, front};
+use crate::segment::{Carried, Sought, carried_by, front};
 use crate::time::time_of;
 use arrayvec::ArrayVec;
 
@@ -72,10 +72,10 @@ impl Section {
     }
 
     /// What is in a packet on an interface of the section, of a simulator on this port.
-    pub(crate) fn found_of<'a>(&self, port: u16, packet: &Packet<'a>) -> Found<'a>
-        ensures found { found_as result
-            ≡ found_of port (section_as self.now) (packet_as packet.now) }
-        ensures small { IsSmall (found_as result) }
+    pub(crate) fn carried_of<'a>(&self, port: u16, packet: &Packet<'a>) -> Carried<'a>
+        ensures carried { carried_as result
+            ≡ carried_of port (section_as self.now) (packet_as packet.now) }
+        ensures small { IsSmall (carried_as result) }
     {
         let link = match self.interface(packet.interface) {
             Some(interface) => interface.link,
@@ -85,6 +85,6 @@ impl Section {
             port,
             whole: packet.bytes.len() == packet.size as usize,
         };
-        found_by(link, sought, packet.bytes)
+        carried_by(link, sought, packet.bytes)
     }
 }

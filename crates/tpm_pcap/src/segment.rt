@@ -1,8 +1,8 @@
 //! Segments of TCP.
 
 ghost use Rattle.std.specs.Prelude.{◌≡◌, ◌<◌, take, drop};
-ghost use Rattle.tpm_pcap.specs.Segments.{fragment, found_by, found_in, in_internet, in_tcp};
-ghost use Rattle.tpm_pcap.specs.inner.Segments.{ends_as, found_as};
+ghost use Rattle.tpm_pcap.specs.Segments.{fragment, carried_by, carried_in, in_internet, in_tcp};
+ghost use Rattle.tpm_pcap.specs.inner.Segments.{ends_as, carried_as};
 ghost use Rattle.tpm_pcap.specs.Segments.{in_version4, in_version6, is_on_port, lacking, opens};
 ghost use Rattle.tpm_pcap.specs.inner.Segments.{IsSmall, segment_as};
 ghost use Rattle.tpm_pcap.specs.Segments.{segment_of, tcp_head};
@@ -47,9 +47,9 @@ pub(crate) struct Segment<'a> {
     pub(crate) payload: &'a [u8],
 }
 
-/// What was found in a packet.
+/// What a packet carries.
 #[derive(Drop, Clone, Copy)]
-pub(crate) enum Found<'a> {
+pub(crate) enum Carried<'a> {
     /// Nothing of the port.
     Other,
     /// Too little of it was captured.
@@ -63,11 +63,15 @@ pub(crate) enum Found<'a> {
 }
 
 // What a packet is that ends before a header does.
-fn lacking<'a>(whole: bool) -> Found<'a>
-    ensures found { found_as result ≡ lacking whole }
-    ensures small { IsSmall (found_as result) }
+fn lacking<'a>(whole: bool) -> Carried<'a>
+    ensures carried { carried_as result ≡ lacking whole }
+    ensures small { IsSmall (carried_as result) }
 {
-    if whole { Found::Other } else { Found::Lacking }
+    if whole {
+        Carried::Other
+    } else {
+        Carried::Lacking
+    }
 }
 
 // ---- TCP
@@ -148,40 +152,40 @@ pub fn behind(bytes: &[u8], count: usize) -> &[u8]
 
 // What is in so many bytes of TCP, of which these were captured.
 #[tactic(auto, unfolding(crate::specs::Segments::in_tcp))]
-fn in_tcp<'a>(sought: Sought, ends: Ends<'a>, size: usize, tcp: &'a [u8]) -> Found<'a>
+fn in_tcp<'a>(sought: Sought, ends: Ends<'a>, size: usize, tcp: &'a [u8]) -> Carried<'a>
     requires { size < 65536 }
-    ensures found { found_as result ≡ in_tcp sought (ends_as ends.entry) size tcp.now }
-    ensures small { IsSmall (found_as result) }
+    ensures carried { carried_as result ≡ in_tcp sought (ends_as ends.entry) size tcp.now }
+    ensures small { IsSmall (carried_as result) }
 {
     if tcp.len() < 20 {
         return lacking(sought.whole);
     }
     if !is_on_port(sought.port, tcp) {
-        return Found::Other;
+        return Carried::Other;
     }
     let head = tcp_head(tcp);
     if head < 20 || size < head {
-        return Found::Other;
+        return Carried::Other;
     }
-    Found::Segment(segment_of(sought.port, ends, size - head, tcp))
+    Carried::Segment(segment_of(sought.port, ends, size - head, tcp))
 }
 
 // ---- IP
 
 // What is in a packet of IPv4.
 #[tactic(auto, unfolding(crate::specs::Segments::in_version4))]
-fn in_version4<'a>(sought: Sought, bytes: &'a [u8]) -> Found<'a>
-    ensures found { found_as result ≡ in_version4 sought bytes.now }
-    ensures small { IsSmall (found_as result) }
+fn in_version4<'a>(sought: Sought, bytes: &'a [u8]) -> Carried<'a>
+    ensures carried { carried_as result ≡ in_version4 sought bytes.now }
+    ensures small { IsSmall (carried_as result) }
 {
     if bytes.len() < 20 {
         return lacking(sought.whole);
     }
     if byte_at(bytes, 9) != 6 {
-        return Found::Other;
+        return Carried::Other;
     }
     if number2(bytes, 6) % 16384 != 0 {
-        return Found::Fragment;
+        return Carried::Fragment;
     }
     let head = byte_at(bytes, 0) as usize % 16 * 4;
     let size = (number2(bytes, 2) as usize).saturating_sub(head);
@@ -193,22 +197,22 @@ fn in_version4<'a>(sought: Sought, bytes: &'a [u8]) -> Found<'a>
 }
 
 // What a fragment of IPv6 is, by the protocol of what it is a part of.
-fn fragment<'a>(protocol: u8) -> Found<'a>
-    ensures found { found_as result ≡ fragment protocol }
-    ensures small { IsSmall (found_as result) }
+fn fragment<'a>(protocol: u8) -> Carried<'a>
+    ensures carried { carried_as result ≡ fragment protocol }
+    ensures small { IsSmall (carried_as result) }
 {
     if protocol == 6 {
-        Found::Fragment
+        Carried::Fragment
     } else {
-        Found::Other
+        Carried::Other
     }
 }
 
 // What is in a packet of IPv6.
 #[tactic(auto, unfolding(crate::specs::Segments::in_version6))]
-fn in_version6<'a>(sought: Sought, bytes: &'a [u8]) -> Found<'a>
-    ensures found { found_as result ≡ in_version6 sought bytes.now }
-    ensures small { IsSmall (found_as result) }
+fn in_version6<'a>(sought: Sought, bytes: &'a [u8]) -> Carried<'a>
+    ensures carried { carried_as result ≡ in_version6 sought bytes.now }
+    ensures small { IsSmall (carried_as result) }
 {
     if bytes.len() < 40 {
         return lacking(sought.whole);
@@ -218,7 +222,7 @@ fn in_version6<'a>(sought: Sought, bytes: &'a [u8]) -> Found<'a>
         return fragment(byte_at(bytes, 40));
     }
     if next != 6 {
-        return Found::Other;
+        return Carried::Other;
     }
     let size = number2(bytes, 4) as usize;
     let ends = Ends {
@@ -230,42 +234,42 @@ fn in_version6<'a>(sought: Sought, bytes: &'a [u8]) -> Found<'a>
 
 // What is in a packet of the internet.
 #[tactic(auto, unfolding(crate::specs::Segments::in_internet))]
-fn in_internet<'a>(sought: Sought, bytes: &'a [u8]) -> Found<'a>
-    ensures found { found_as result ≡ in_internet sought bytes.now }
-    ensures small { IsSmall (found_as result) }
+fn in_internet<'a>(sought: Sought, bytes: &'a [u8]) -> Carried<'a>
+    ensures carried { carried_as result ≡ in_internet sought bytes.now }
+    ensures small { IsSmall (carried_as result) }
 {
     match byte_at(bytes, 0) / 16 {
         4 => in_version4(sought, bytes),
         6 => in_version6(sought, bytes),
         _ if bytes.is_empty() => lacking(sought.whole),
-        _ => Found::Other,
+        _ => Carried::Other,
     }
 }
 
 // ---- a packet
 
 // What is in a packet of this kind of link, all of which was captured or not.
-#[tactic(auto, unfolding(crate::specs::Segments::found_in))]
-fn found_in<'a>(link: Link, sought: Sought, bytes: &'a [u8]) -> Found<'a>
-    ensures found { found_as result ≡ found_in link sought bytes.now }
-    ensures small { IsSmall (found_as result) }
+#[tactic(auto, unfolding(crate::specs::Segments::carried_in))]
+fn carried_in<'a>(link: Link, sought: Sought, bytes: &'a [u8]) -> Carried<'a>
+    ensures carried { carried_as result ≡ carried_in link sought bytes.now }
+    ensures small { IsSmall (carried_as result) }
 {
     if bytes.len() < head_size(link) {
         return lacking(sought.whole);
     }
     if !carries_internet(link, bytes) {
-        return Found::Other;
+        return Carried::Other;
     }
     in_internet(sought, &bytes[head_size(link)..])
 }
 
 /// What is in a packet of this kind of link, if that is known.
-pub(crate) fn found_by<'a>(link: Option<Link>, sought: Sought, bytes: &'a [u8]) -> Found<'a>
-    ensures found { found_as result ≡ found_by link sought bytes.now }
-    ensures small { IsSmall (found_as result) }
+pub(crate) fn carried_by<'a>(link: Option<Link>, sought: Sought, bytes: &'a [u8]) -> Carried<'a>
+    ensures carried { carried_as result ≡ carried_by link sought bytes.now }
+    ensures small { IsSmall (carried_as result) }
 {
     match link {
-        Some(link) => found_in(link, sought, bytes),
-        None => Found::UnknownLink,
+        Some(link) => carried_in(link, sought, bytes),
+        None => Carried::UnknownLink,
     }
 }

@@ -2,13 +2,13 @@
 
 ghost use Rattle.std.specs.Prelude.{◌≡◌, ◌<◌, ◌++◌, OnOk};
 ghost use Rattle.tpm_pcap.specs.Entries.{entries_as};
-ghost use Rattle.tpm_pcap.specs.inner.Segments.{found_as, segment_as, IsSmall};
-ghost use Rattle.tpm_pcap.specs.Talks.{after_found, after_matter, after_same, found_told, is_same};
+ghost use Rattle.tpm_pcap.specs.inner.Segments.{carried_as, segment_as, IsSmall};
+ghost use Rattle.tpm_pcap.specs.Talks.{after_carried, after_matter, after_same, carried_told, is_same};
 ghost use Rattle.tpm_pcap.specs.Talks.{matter_told, matters, new_talk, same_told, talk_of, unfinished};
 ghost use Rattle.tpm_pcap.specs.inner.Talks.{talk_as};
 
 use crate::entry::{Entry, Reason, Stamp};
-use crate::segment::{Found, Segment};
+use crate::segment::{Carried, Segment};
 use crate::way::Way;
 use std::alloc::{AllocError, Global};
 
@@ -120,35 +120,35 @@ impl<'a> Talk<'a> {
         self.take_same(alloc, stamp, segment, entries)
     }
 
-    /// Takes what was found in a packet.
+    /// Takes what a packet carries.
     pub(crate) fn take(
         &mut self,
         alloc: Global,
         stamp: Stamp,
-        found: &Found<'a>,
+        carried: &Carried<'a>,
         entries: &mut Vec<Entry>,
     ) -> Result<(), AllocError>
-        requires { IsSmall (found_as found.now) }
+        requires { IsSmall (carried_as carried.now) }
         ensures { OnOk result ((talk_as self.new
-            ≡ after_found (talk_as self.old) (found_as found.now))
+            ≡ after_carried (talk_as self.old) (carried_as carried.now))
             × (entries_as entries.new.items ≡ entries_as entries.old.items
-            ++ found_told stamp (talk_as self.old) (found_as found.now))) }
+            ++ carried_told stamp (talk_as self.old) (carried_as carried.now))) }
     {
-        match found {
-            Found::Other => Ok(()),
-            Found::Lacking => {
+        match carried {
+            Carried::Other => Ok(()),
+            Carried::Lacking => {
                 entries.push(Entry::Untold(stamp.packet, Reason::CutShort))?;
                 Ok(())
             }
-            Found::Fragment => {
+            Carried::Fragment => {
                 entries.push(Entry::Untold(stamp.packet, Reason::Fragment))?;
                 Ok(())
             }
-            Found::UnknownLink => {
+            Carried::UnknownLink => {
                 entries.push(Entry::Untold(stamp.packet, Reason::UnknownLink))?;
                 Ok(())
             }
-            Found::Segment(segment) => {
+            Carried::Segment(segment) => {
                 if matters(segment) {
                     self.take_matter(alloc, stamp, segment, entries)
                 } else {

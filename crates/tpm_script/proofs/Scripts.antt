@@ -7,11 +7,11 @@ use Rattle.std.specs.Prelude.{codes, filter}
 use Rattle.std.specs.List.{AllByRecursion}
 use Rattle.tpm_model.specs.Steps.{History, Origin, PowerCycle}
 use Rattle.tpm_model.specs.Answers.{answer, next}
-use Rattle.tpm_model.specs.Runs.{Event, Given, Cycled, after, run}
+use Rattle.tpm_model.specs.Runs.{Stimulus, Given, Cycled, after, run}
 use Rattle.tpm_script.specs.declared.script.Run.{Run}
 use Rattle.tpm_script.specs.Script.{ScriptLine, Blank, Power, Command, NotHexadecimal, Script, line_of, nonce_of}
-use Rattle.tpm_script.specs.Script.{AreAnswered, IsRefusedIn, IsRefusedLine, IsUnrefused, events_from, script_from}
-use Rattle.tpm_script.specs.Script.{script, events_text, refused_text, script_text, status_for, ReadsNoFurther}
+use Rattle.tpm_script.specs.Script.{AreAnswered, IsRefusedIn, IsRefusedLine, IsUnrefused, stimuli_from, script_from}
+use Rattle.tpm_script.specs.Script.{script, stimuli_text, refused_text, script_text, status_for, ReadsNoFurther}
 use Rattle.tpm_script.specs.Script.{ReadsScript, ReadsTooMuch, most_digits}
 use Rattle.tpm_script.specs.inner.Progress.{Runs, RunsTo, StandsAt, digits, next_command}
 use Rattle.tpm_output.specs.declared.status.Status.TheVariants.{Done, Refused}
@@ -24,17 +24,17 @@ use Rattle.tpm_output.specs.LineSinks.{LinesStart, StopsAt, TakesAll, TakesFrom,
 
 -- ---- the script of some lines
 
--- these events, and then a script
-abbrev behind : List Event → Script → Script
-behind es s = record { events = es ++ s.events; refused = s.refused }
+-- these stimuli, and then a script
+abbrev behind : List Stimulus → Script → Script
+behind es s = record { stimuli = es ++ s.stimuli; refused = s.refused }
 
 script_from-more : (n k : ℕ) (l : ScriptLine) (ls : List ScriptLine) → l ≢ NotHexadecimal
-    → script_from n k (l ∷ ls) ≡ behind (events_from k (l ∷ [])) (script_from (n + 1) (next_command k l) ls)
+    → script_from n k (l ∷ ls) ≡ behind (stimuli_from k (l ∷ [])) (script_from (n + 1) (next_command k l) ls)
 script_from-more n k NotHexadecimal ls f = absurd (f refl)
 script_from-more n k _ ls f = refl
 
 script_from-refused : (n k : ℕ) (l : ScriptLine) (ls : List ScriptLine) → l ≡ NotHexadecimal
-    → script_from n k (l ∷ ls) ≡ record { events = []; refused = Some n }
+    → script_from n k (l ∷ ls) ≡ record { stimuli = []; refused = Some n }
 script_from-refused n k l ls f = rw f refl
 
 -- What is behind a line that is refused makes no difference.
@@ -47,20 +47,20 @@ script_from-cut n k (NotHexadecimal ∷ xs) others = refl
 
 -- ---- texts
 
-events_text-append : (o : Origin) (h : History) (es fs : List Event)
-    → events_text (es ++ fs) (run o h (es ++ fs)) ≡ events_text es (run o h es) ++ events_text fs (run o (after o h es) fs)
-events_text-append o h [] fs = refl
-events_text-append o h (Given bytes nonce ∷ es) fs =
-    ap (λ (text : List ℕ). bytes_line (answer o h bytes nonce) ++ text) (events_text-append o (next o h bytes nonce) es fs)
+stimuli_text-append : (o : Origin) (h : History) (es fs : List Stimulus)
+    → stimuli_text (es ++ fs) (run o h (es ++ fs)) ≡ stimuli_text es (run o h es) ++ stimuli_text fs (run o (after o h es) fs)
+stimuli_text-append o h [] fs = refl
+stimuli_text-append o h (Given bytes nonce ∷ es) fs =
+    ap (λ (text : List ℕ). bytes_line (answer o h bytes nonce) ++ text) (stimuli_text-append o (next o h bytes nonce) es fs)
     ∙ sym (append_assoc (bytes_line (answer o h bytes nonce)) _ _)
-events_text-append o h (Cycled ∷ es) fs = ap (λ (text : List ℕ). line (codes "power" ∷ []) ++ text) (events_text-append o (PowerCycle ∷ h) es fs)
+stimuli_text-append o h (Cycled ∷ es) fs = ap (λ (text : List ℕ). line (codes "power" ∷ []) ++ text) (stimuli_text-append o (PowerCycle ∷ h) es fs)
 
-script_text-append : (o : Origin) (h : History) (es : List Event) (s : Script)
-    → script_text o h (record { events = es; refused = None }) ++ script_text o (after o h es) s ≡ script_text o h (behind es s)
+script_text-append : (o : Origin) (h : History) (es : List Stimulus) (s : Script)
+    → script_text o h (record { stimuli = es; refused = None }) ++ script_text o (after o h es) s ≡ script_text o h (behind es s)
 script_text-append o h es s =
-    ap (λ (text : List ℕ). text ++ script_text o (after o h es) s) (append-nil (events_text es (run o h es)))
-    ∙ sym (append_assoc (events_text es (run o h es)) (events_text s.events (run o (after o h es) s.events)) (refused_text s.refused))
-    ∙ ap (λ (text : List ℕ). text ++ refused_text s.refused) (sym (events_text-append o h es s.events))
+    ap (λ (text : List ℕ). text ++ script_text o (after o h es) s) (append-nil (stimuli_text es (run o h es)))
+    ∙ sym (append_assoc (stimuli_text es (run o h es)) (stimuli_text s.stimuli (run o (after o h es) s.stimuli)) (refused_text s.refused))
+    ∙ ap (λ (text : List ℕ). text ++ refused_text s.refused) (sym (stimuli_text-append o h es s.stimuli))
 
 -- ---- lines that were run
 
@@ -80,7 +80,7 @@ runs start (line ∷ others) end (inl f) =
     let n = start.number in
     let r = start.sink in
     let l = line_of line in
-    let es = events_from r.command (l ∷ []) in
+    let es = stimuli_from r.command (l ∷ []) in
     let rest = runs (record { number = n + 1; sink = f.0 }) others (record { left = end.left; text = f.2 }) f.4 in
     let s : Script = script_from (n + 1) f.0.command (map line_of others) in
     let whole : script_from n r.command (l ∷ map line_of others) ≡ behind es s =
@@ -92,7 +92,7 @@ runs start (line ∷ others) end (inl f) =
           let one = f.3.performs o h stands in
           f.5
           ∙ ap (λ (t : List ℕ). t ++ f.2) one.text
-          ∙ ap (λ (t : List ℕ). script_text o h (record { events = es; refused = None }) ++ t) (rest.is o (after o h es) one.stands)
+          ∙ ap (λ (t : List ℕ). script_text o h (record { stimuli = es; refused = None }) ++ t) (rest.is o (after o h es) one.stands)
           ∙ script_text-append o h es s
           ∙ ap (script_text o h) (sym whole);
     }

@@ -7,7 +7,7 @@ use Rattle.std.specs.Fmt.{decimal}
 use Rattle.std.specs.List.{AllByRecursion}
 use Rattle.std.specs.Io.KnownBytes.{Consumes, IsAtEnd}
 use Rattle.tpm_model.specs.Steps.{History, Origin}
-use Rattle.tpm_model.specs.Runs.{Event, Given, Cycled, run}
+use Rattle.tpm_model.specs.Runs.{Stimulus, Given, Cycled, run}
 use Rattle.tpm_output.specs.declared.status.Status.TheVariants.{Done, Refused}
 use Rattle.tpm_output.specs.declared.status.Status.{Status}
 use Rattle.tpm_output.specs.Text.{bytes_in, bytes_line, line}
@@ -81,7 +81,7 @@ pub record AreAnswered (lines line : List ℕ) : Type 0 where
 -- ---- what lines ask of a device, up to one that is not hexadecimal, and the number of that line, where there is one
 
 pub record Script : Type 0 where
-  pub events : List Event
+  pub stimuli : List Stimulus
   pub refused : Option ℕ
 
 -- the nonce of the k-th command, from 1: k as a number of sixteen bytes, four times
@@ -89,12 +89,12 @@ abbrev pub nonce_of : ℕ → List ℕ
 nonce_of k = let number = to_be_bytes w128 k in number ++ (number ++ (number ++ number))
 
 -- Of these lines the first command is the k-th.
-abbrev pub events_from : ℕ → List ScriptLine → List Event
-events_from k [] = []
-events_from k (Blank ∷ lines) = events_from k lines
-events_from k (Power ∷ lines) = Cycled ∷ events_from k lines
-events_from k (Command bytes ∷ lines) = Given bytes (nonce_of k) ∷ events_from (k + 1) lines
-events_from k (NotHexadecimal ∷ lines) = []
+abbrev pub stimuli_from : ℕ → List ScriptLine → List Stimulus
+stimuli_from k [] = []
+stimuli_from k (Blank ∷ lines) = stimuli_from k lines
+stimuli_from k (Power ∷ lines) = Cycled ∷ stimuli_from k lines
+stimuli_from k (Command bytes ∷ lines) = Given bytes (nonce_of k) ∷ stimuli_from (k + 1) lines
+stimuli_from k (NotHexadecimal ∷ lines) = []
 
 -- Of these lines the first has number n.
 abbrev pub refused_from : ℕ → List ScriptLine → Option ℕ
@@ -103,19 +103,19 @@ refused_from n (NotHexadecimal ∷ lines) = Some n
 refused_from n (_ ∷ lines) = refused_from (n + 1) lines
 
 abbrev pub script_from : (n k : ℕ) → List ScriptLine → Script
-script_from n k lines = record { events = events_from k lines; refused = refused_from n lines }
+script_from n k lines = record { stimuli = stimuli_from k lines; refused = refused_from n lines }
 
 abbrev pub script : List ℕ → Script
 script bytes = script_from 1 1 (map line_of (lines_of bytes))
 
 -- ---- what is printed
 
--- a line for each event: `power`, or the answer to the buffer
-abbrev pub events_text : List Event → (answers : List (List ℕ)) → List ℕ
-events_text [] answers = []
-events_text (Cycled ∷ events) answers = line (codes "power" ∷ []) ++ events_text events answers
-events_text (Given bytes nonce ∷ events) (answer ∷ answers) = bytes_line answer ++ events_text events answers
-events_text (Given bytes nonce ∷ events) [] = []
+-- a line for each stimulus: `power`, or the answer to the buffer
+abbrev pub stimuli_text : List Stimulus → (answers : List (List ℕ)) → List ℕ
+stimuli_text [] answers = []
+stimuli_text (Cycled ∷ stimuli) answers = line (codes "power" ∷ []) ++ stimuli_text stimuli answers
+stimuli_text (Given bytes nonce ∷ stimuli) (answer ∷ answers) = bytes_line answer ++ stimuli_text stimuli answers
+stimuli_text (Given bytes nonce ∷ stimuli) [] = []
 
 unfoldable pub refused_line : ℕ → List ℕ
 refused_line n = line (codes "line" ∷ (decimal n ++ codes ":") ∷ codes "not" ∷ codes "hexadecimal" ∷ [])
@@ -126,7 +126,7 @@ refused_text (Some n) = refused_line n
 
 -- A device at this history is run: its answers, and then the line that is not hexadecimal.
 abbrev pub script_text : Origin → History → Script → List ℕ
-script_text o h s = events_text s.events (run o h s.events) ++ refused_text s.refused
+script_text o h s = stimuli_text s.stimuli (run o h s.stimuli) ++ refused_text s.refused
 
 abbrev pub status_for : Option ℕ → Status
 status_for None = Done

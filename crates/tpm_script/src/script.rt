@@ -44,7 +44,7 @@ fn push_response(
 ) -> Pushed
     ensures { OnOk result ((added : List ℕ)
         × AddedTo (string_bytes text.old) (string_bytes text.new) added
-        × GoesThrough (record { events = Given bytes.now (nonce_of k) ∷ []; refused = None })
+        × GoesThrough (record { stimuli = Given bytes.now (nonce_of k) ∷ []; refused = None })
         device.old device.new added) }
 {
     let response = device.execute(bytes, &nonce(k));
@@ -57,7 +57,7 @@ fn push_response(
 fn push_power(text: &mut String, device: &mut Device) -> Pushed
     ensures { OnOk result ((added : List ℕ)
         × AddedTo (string_bytes text.old) (string_bytes text.new) added
-        × GoesThrough (record { events = Cycled ∷ []; refused = None })
+        × GoesThrough (record { stimuli = Cycled ∷ []; refused = None })
         device.old device.new added) }
 {
     device.power_cycle();

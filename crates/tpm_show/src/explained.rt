@@ -70,8 +70,8 @@ fn push_code_among(text: &mut String, codes: Codes, code: u32) -> Result<Status,
         ≡ string_bytes text.old ++ line_or_unknown (line_among codes code))) }
 {
     match (codes, base_meaning(code), code_meaning(code)) {
-        (Codes::Base | Codes::BaseOrTpm, Some(meaning), _) => push_base(text, meaning),
-        (Codes::BaseOrTpm | Codes::Tpm, _, Some(meaning)) => push_meaning(text, code, meaning),
+        (Codes::Base | Codes::BaseOrTpm, Some(meaning), _) => push_base(text, &meaning),
+        (Codes::BaseOrTpm | Codes::Tpm, _, Some(meaning)) => push_meaning(text, code, &meaning),
         _ => push_unknown(text),
     }
 }
@@ -93,7 +93,7 @@ fn push_code(text: &mut String, code: u32) -> Result<Status, AllocError>
     let Some(layer) = layer_of(code) else {
         return push_code_among(text, Codes::Tpm, code);
     };
-    push_layer(text, layer)?;
+    push_layer(text, &layer)?;
     push_code_among(text, codes_of(layer.number), code & CODE)
 }
 

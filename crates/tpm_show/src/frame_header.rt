@@ -84,7 +84,7 @@ pub(crate) fn push_code_name(text: &mut String, code: u32) -> Pushed
         return Ok(());
     };
     text.push_str(" ")?;
-    push_meaning_name(text, code, meaning)
+    push_meaning_name(text, code, &meaning)
 }
 
 fn meaning_name(alloc: Global, code: u32, meaning: &Meaning) -> Result<String, AllocError>
@@ -103,7 +103,7 @@ pub(crate) fn tell_code_name<T: Teller>(teller: &mut T, how: How, member: &str, 
     let Some(meaning) = code_meaning(code) else {
         return Ok(());
     };
-    let name = meaning_name(teller.alloc(), code, meaning)?;
+    let name = meaning_name(teller.alloc(), code, &meaning)?;
     teller.tell(&Piece::Says(how, Some(member), Value::Word(name.as_str())))
 }
 
@@ -115,7 +115,7 @@ pub(crate) fn tell_code_in_line<T: Teller>(teller: &mut T, code: u32) -> Pushed
     let Some(meaning) = code_meaning(code) else {
         return Ok(());
     };
-    let name = meaning_name(teller.alloc(), code, meaning)?;
+    let name = meaning_name(teller.alloc(), code, &meaning)?;
     teller.tell(&in_line!(Asked Word name.as_str()))
 }
 

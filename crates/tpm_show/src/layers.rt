@@ -4,7 +4,7 @@ ghost use Rattle.std.specs.Prelude.{◌≡◌, option_map};
 ghost use Rattle.tpm_show.specs.Layers.{codes_of, layer_of, base_of};
 ghost use Rattle.tpm_names.specs.Meanings.{meaning_as};
 
-use tpm_names::meaning::{Meaning, look_up};
+use tpm_names::meaning::{Meaning, Row, look_up};
 use tpm_names::meanings;
 
 /// Which codes a layer answers.
@@ -19,7 +19,7 @@ pub(crate) enum Codes {
 }
 
 // The layers, by their names in tss2_common.h (TCG TSS 2.0 Overview and Common Structures, response codes).
-const LAYERS: [Meaning; 7] = meanings![
+const LAYERS: [Row; 7] = meanings![
     6 "FEATURE" "the feature interface",
     7 "ESAPI" "the enhanced system interface",
     8 "SYS" "the system interface",
@@ -30,7 +30,7 @@ const LAYERS: [Meaning; 7] = meanings![
 ];
 
 // The base codes, by their names in tss2_common.h.
-const BASE_CODES: [Meaning; 53] = meanings![
+const BASE_CODES: [Row; 53] = meanings![
     1 "GENERAL_FAILURE" "a failure that has no code of its own",
     2 "NOT_IMPLEMENTED" "the function is not implemented",
     3 "BAD_CONTEXT" "the context is bad",
@@ -87,8 +87,8 @@ const BASE_CODES: [Meaning; 53] = meanings![
 ];
 
 /// The software layer of a response code, or none for a TPM's code and for a layer that isn't listed.
-pub(crate) fn layer_of(code: u32) -> Option<&'static Meaning>
-    ensures { option_map (λ m. meaning_as m.now) result ≡ layer_of code }
+pub(crate) fn layer_of(code: u32) -> Option<Meaning>
+    ensures { option_map meaning_as result ≡ layer_of code }
 {
     look_up(&LAYERS, code >> 16)
 }
@@ -106,8 +106,8 @@ pub(crate) fn codes_of(layer: u32) -> Codes
 }
 
 /// What a base code says, if it is listed.
-pub(crate) fn base_meaning(code: u32) -> Option<&'static Meaning>
-    ensures { option_map (λ m. meaning_as m.now) result ≡ base_of code }
+pub(crate) fn base_meaning(code: u32) -> Option<Meaning>
+    ensures { option_map meaning_as result ≡ base_of code }
 {
     look_up(&BASE_CODES, code)
 }

@@ -7,8 +7,8 @@ use Rattle.std.proofs.lemmas.Bool.{cases_lt}
 use Rattle.std.proofs.Math.Seq.{take-add}
 use Rattle.tpm_wire.specs.Token.{number_of}
 use Rattle.tpm_wire.specs.declared.refusal.Refusal.{Refusal}
-use Rattle.tpm_stream.specs.declared.framer.Status.TheVariants.{More, Ready, Broken}
-use Rattle.tpm_stream.specs.declared.framer.Status.{Status}
+use Rattle.tpm_stream.specs.declared.framer.FramerState.TheVariants.{More, Ready, Broken}
+use Rattle.tpm_stream.specs.declared.framer.FramerState.{FramerState}
 use Rattle.tpm_stream.specs.Frames.{stated, IsFrame, BeginsNoFrame, IsPart, IsHeld, Push, Pushes, bad_size}
 
 -- what comes after the size doesn't change it
@@ -77,8 +77,8 @@ module _ (old piece : List ℕ) (k j : ℕ) (within : k ≤ length piece) (lt : 
       sym (ap stated regroup ∙ stated_more (old ++ take j piece) (drop j (take k piece)) (omega (arith, some, some_length)))
 
 -- a call of `push`, by what it was and what came of it
-abbrev pub push : (old piece new : List ℕ) (k : ℕ) (status : Status) → Push
-push old piece new k status = record { old = old; piece = piece; new = new; taken = k; status = status }
+abbrev pub push : (old piece new : List ℕ) (k : ℕ) (state : FramerState) → Push
+push old piece new k state = record { old = old; piece = piece; new = new; taken = k; state = state }
 
 -- too few for a size
 pub pushes_short : (old piece new : List ℕ) (k : ℕ) → k ≡ min (6 - length old) (length piece)

@@ -10,11 +10,11 @@ use Rattle.std.specs.List.{concat}
 use Rattle.std.specs.Prelude.{All}
 use Rattle.tpm_wire.specs.declared.refusal.Refusal.{Refusal}
 use Rattle.tpm_wire.specs.Sources.{OfBytes}
-use Rattle.tpm_stream.specs.declared.framer.Status.TheVariants.{More, Ready, Broken}
-use Rattle.tpm_stream.specs.declared.framer.Status.{Status}
+use Rattle.tpm_stream.specs.declared.framer.FramerState.TheVariants.{More, Ready, Broken}
+use Rattle.tpm_stream.specs.declared.framer.FramerState.{FramerState}
 use Rattle.tpm_stream.specs.declared.reader.ReadFault.TheVariants.{Device, EndInside, Broken as BrokenInput}
 use Rattle.tpm_stream.specs.declared.reader.ReadFault.{ReadFault}
-use Rattle.tpm_stream.specs.Frames.{stated, IsFrame, BeginsNoFrame, IsBroken, IsPart, IsStatus, Frames, Push, Pushes}
+use Rattle.tpm_stream.specs.Frames.{stated, IsFrame, BeginsNoFrame, IsBroken, IsPart, HasState, Frames, Push, Pushes}
 use Rattle.tpm_stream.specs.Frames.{Advances, bad_size}
 use Rattle.tpm_stream.specs.Reads.{ReadsFrame, IsAnswer}
 use Rattle.tpm_stream.specs.Streams.{Framing, GivenPiece, GivenPieces, ReadInTurn, of_new}
@@ -22,7 +22,7 @@ use Rattle.tpm_stream.proofs.Framed.{stated_more, front_frame, short_part, sized
 use Rattle.tpm_stream.proofs.Framed.{pushes_part, pushes_ready}
 use Rattle.arrayvec.specs.ArrayVec.{ArrayVec}
 
--- ---- one way to cut a stream
+-- ---- one way to split a stream
 
 -- two frames at the beginning of the same bytes are one
 pub one_first : (f g a b : List ℕ) → IsFrame f → IsFrame g → f ++ a ≡ g ++ b → (f ≡ g) × (a ≡ b)
@@ -42,21 +42,21 @@ one_first f g a b x y e =
       sym (drop_at f a (length f) refl) ∙ ap (drop (length f)) e ∙ drop_at g b (length f) (sym n),
     )
 
-pub one_cut : (frames others : List (List ℕ)) (rest other : List ℕ) → All IsFrame frames → All IsFrame others → BeginsNoFrame rest → BeginsNoFrame other
+pub one_split : (frames others : List (List ℕ)) (rest other : List ℕ) → All IsFrame frames → All IsFrame others → BeginsNoFrame rest → BeginsNoFrame other
     → concat frames ++ rest ≡ concat others ++ other → (frames ≡ others) × (rest ≡ other)
-one_cut [] [] rest other x y over none e = (refl, e)
-one_cut [] (g ∷ gs) rest other x y over none e = absurd (over g (concat gs ++ other) (All-head IsFrame g gs y) (e ∙ append_assoc g (concat gs) other))
-one_cut (f ∷ fs) [] rest other x y over none e = absurd (none f (concat fs ++ rest) (All-head IsFrame f fs x) (sym e ∙ append_assoc f (concat fs) rest))
-one_cut (f ∷ fs) (g ∷ gs) rest other x y over none e =
+one_split [] [] rest other x y over none e = (refl, e)
+one_split [] (g ∷ gs) rest other x y over none e = absurd (over g (concat gs ++ other) (All-head IsFrame g gs y) (e ∙ append_assoc g (concat gs) other))
+one_split (f ∷ fs) [] rest other x y over none e = absurd (none f (concat fs ++ rest) (All-head IsFrame f fs x) (sym e ∙ append_assoc f (concat fs) rest))
+one_split (f ∷ fs) (g ∷ gs) rest other x y over none e =
     let start =
     one_first f g (concat fs ++ rest) (concat gs ++ other) (All-head IsFrame f fs x) (All-head IsFrame g gs y)
     (sym (append_assoc f (concat fs) rest) ∙ e ∙ append_assoc g (concat gs) other) in
-    let later = one_cut fs gs rest other (All-tail IsFrame f fs x) (All-tail IsFrame g gs y) over none start.1 in
+    let later = one_split fs gs rest other (All-tail IsFrame f fs x) (All-tail IsFrame g gs y) over none start.1 in
     (ap (λ (h : List ℕ). h ∷ fs) start.0 ∙ ap (λ (hs : List (List ℕ)). g ∷ hs) later.0, later.1)
 
 pub one : (stream : List ℕ) (frames others : List (List ℕ)) (rest other : List ℕ) → Frames stream frames rest
     → Frames stream others other → (frames ≡ others) × (rest ≡ other)
-one stream frames others rest other x y = one_cut frames others rest other x.each y.each x.over y.over (sym x.whole ∙ y.whole)
+one stream frames others rest other x y = one_split frames others rest other x.each y.each x.over y.over (sym x.whole ∙ y.whole)
 
 pub first : (frame stream : List ℕ) (frames : List (List ℕ)) (rest : List ℕ) → IsFrame frame → Frames stream frames rest
     → Frames (frame ++ stream) (frame ∷ frames) rest
@@ -100,15 +100,15 @@ broken_begins bytes more b f others is e =
 rest_alone : (rest : List ℕ) → BeginsNoFrame rest → Frames rest [] rest
 rest_alone rest over = record { whole = refl; each = All-nil IsFrame; over = over }
 
-some_cut : (fuel : ℕ) (stream : List ℕ) → length stream ≤ fuel → (frames : List (List ℕ)) × (rest : List ℕ) × Frames stream frames rest
-some_cut zero stream le = ([], stream, rest_alone stream (short_part stream (omega (arith, le))).no_frame)
-some_cut (suc fuel) stream le = elim (begin stream) [
+some_split : (fuel : ℕ) (stream : List ℕ) → length stream ≤ fuel → (frames : List (List ℕ)) × (rest : List ℕ) × Frames stream frames rest
+some_split zero stream le = ([], stream, rest_alone stream (short_part stream (omega (arith, le))).no_frame)
+some_split (suc fuel) stream le = elim (begin stream) [
   | inl is ↦ ([], stream, rest_alone stream is.no_frame)
   | inr (inl is) ↦ ([], stream, rest_alone stream (subst BeginsNoFrame (append-nil stream) (broken_begins stream [] is)))
   | inr (inr is) ↦
       let n = stated stream in
       let later =
-      some_cut fuel (drop n stream)
+      some_split fuel (drop n stream)
       (omega (
         arith,
         le,
@@ -124,7 +124,7 @@ some_cut (suc fuel) stream le = elim (begin stream) [
 ]
 
 pub some : (stream : List ℕ) → (frames : List (List ℕ)) × (rest : List ℕ) × Frames stream frames rest
-some stream = some_cut (length stream) stream (omega arith)
+some stream = some_split (length stream) stream (omega arith)
 
 pub rest_is : (stream : List ℕ) (frames : List (List ℕ)) (rest : List ℕ) → Frames stream frames rest → IsPart rest ⊎ IsBroken rest
 rest_is stream frames rest x = elim (begin rest) [
@@ -147,38 +147,38 @@ no_broken_frame bytes b is =
     ]
 
 -- a broken framer takes nothing
-broken_takes_none : (held piece new : List ℕ) (k : ℕ) (status : Status) → IsBroken held → Pushes (push held piece new k status) → (k ≡ 0) × (new ≡ held)
-broken_takes_none held piece new zero status b p = (refl, p.held ∙ append-nil held)
-broken_takes_none held piece new (suc k) status b p = absurd ((p.fewest 0 (omega arith)).not_broken (subst IsBroken (sym (append-nil held)) b))
+broken_takes_none : (held piece new : List ℕ) (k : ℕ) (state : FramerState) → IsBroken held → Pushes (push held piece new k state) → (k ≡ 0) × (new ≡ held)
+broken_takes_none held piece new zero state b p = (refl, p.held ∙ append-nil held)
+broken_takes_none held piece new (suc k) state b p = absurd ((p.fewest 0 (omega arith)).not_broken (subst IsBroken (sym (append-nil held)) b))
 
-answers_broken : (new : List ℕ) (status : Status) → IsBroken new → IsStatus new status → status ≡ Broken bad_size
+answers_broken : (new : List ℕ) (state : FramerState) → IsBroken new → HasState new state → state ≡ Broken bad_size
 answers_broken new More b is = absurd (is.not_broken b)
 answers_broken new Ready b is = absurd (no_broken_frame new b is)
 answers_broken new (Broken e) b is = ap Broken is.1
 
-pub push_broken : (p : Push) → IsBroken p.old → Pushes p → (p.taken ≡ 0) × (p.new ≡ p.old) × (p.status ≡ Broken bad_size)
+pub push_broken : (p : Push) → IsBroken p.old → Pushes p → (p.taken ≡ 0) × (p.new ≡ p.old) × (p.state ≡ Broken bad_size)
 push_broken p b pushed =
-    let none = broken_takes_none p.old p.piece p.new p.taken p.status b pushed in
-    (none.0, none.1, answers_broken p.new p.status (subst IsBroken (sym none.1) b) pushed.answer)
+    let none = broken_takes_none p.old p.piece p.new p.taken p.state b pushed in
+    (none.0, none.1, answers_broken p.new p.state (subst IsBroken (sym none.1) b) pushed.answer)
 
 pub next_broken : (held new : List ℕ) → IsBroken held → Advances held new → new ≡ held
 next_broken held new b a = a.other (no_broken_frame held b)
 
 -- all but the bytes left are in the frames and what is held
-record Cut (stream : List ℕ) (frames : List (List ℕ)) (new left : List ℕ) : Type 0 where
+record Split (stream : List ℕ) (frames : List (List ℕ)) (new left : List ℕ) : Type 0 where
   whole : stream ≡ concat frames ++ (new ++ left)
   each : All IsFrame frames
   over : (IsPart new × (left ≡ [])) ⊎ IsBroken new
 
 -- what a push took and what it left
-pushed_whole : (held piece new : List ℕ) (k : ℕ) (status : Status) → Pushes (push held piece new k status) → held ++ piece ≡ new ++ drop k piece
-pushed_whole held piece new k status p =
+pushed_whole : (held piece new : List ℕ) (k : ℕ) (state : FramerState) → Pushes (push held piece new k state) → held ++ piece ≡ new ++ drop k piece
+pushed_whole held piece new k state p =
     ap (λ (r : List ℕ). held ++ r) (sym (take-append-drop k piece))
     ∙ sym (append_assoc held (take k piece) (drop k piece))
     ∙ ap (λ (r : List ℕ). r ++ drop k piece) (sym p.held)
 
-piece_end : (held piece new left : List ℕ) (k : ℕ) (status : Status) → Pushes (push held piece new k status) → status ≢ Ready
-    → left ≡ drop k piece → Cut (held ++ piece) [] new left
+piece_end : (held piece new left : List ℕ) (k : ℕ) (state : FramerState) → Pushes (push held piece new k state) → state ≢ Ready
+    → left ≡ drop k piece → Split (held ++ piece) [] new left
 piece_end held piece new left k More p unready is = record {
   whole = pushed_whole held piece new k More p ∙ ap (λ (r : List ℕ). new ++ r) (sym is);
   each = All-nil IsFrame;
@@ -197,7 +197,7 @@ framing old new left = record { old = old; new = new; left = left }
 nothing : Between []
 nothing = inl (short_part [] (omega arith))
 
-given_piece : (frames : List (List ℕ)) (held piece new left : List ℕ) → GivenPiece (framing held new left) piece frames → Cut (held ++ piece) frames new left
+given_piece : (frames : List (List ℕ)) (held piece new left : List ℕ) → GivenPiece (framing held new left) piece frames → Split (held ++ piece) frames new left
 given_piece [] held piece new left g = piece_end held piece new left g.0 g.1 g.2 g.3 g.4
 given_piece (frame ∷ frames) held piece new left g =
     let later = given_piece frames g.1 (drop g.0 piece) new left g.4 in
@@ -234,12 +234,12 @@ broken_pieces (piece ∷ pieces) held frames new left b g =
 
 given_pieces : (pieces : List (List ℕ)) (held : List ℕ) (frames : List (List ℕ)) (new left : List ℕ) → Between held
     → GivenPieces (framing held new left) pieces frames
-    → Cut (held ++ concat pieces) frames new left
+    → Split (held ++ concat pieces) frames new left
 given_pieces [] held frames new left is g =
-    let none : Cut (held ++ []) [] held [] =
+    let none : Split (held ++ []) [] held [] =
     record { whole = refl; each = All-nil IsFrame; over = elim is [ inl part ↦ inl (part, refl) | inr broken ↦ inr broken ] } in
-    subst (λ (fs : List (List ℕ)). Cut (held ++ []) fs new left) (sym g.0)
-    (subst (λ (n : List ℕ). Cut (held ++ []) [] n left) (sym g.1) (subst (λ (l : List ℕ). Cut (held ++ []) [] held l) (sym g.2) none))
+    subst (λ (fs : List (List ℕ)). Split (held ++ []) fs new left) (sym g.0)
+    (subst (λ (n : List ℕ). Split (held ++ []) [] n left) (sym g.1) (subst (λ (l : List ℕ). Split (held ++ []) [] held l) (sym g.2) none))
 given_pieces (piece ∷ pieces) held frames new left is g =
     let one = given_piece g.0 held piece g.2 g.3 g.5 in
     let so_far : held ++ (piece ++ concat pieces) ≡ concat g.0 ++ (g.2 ++ (g.3 ++ concat pieces)) =
@@ -275,11 +275,11 @@ given_pieces (piece ∷ pieces) held frames new left is g =
 pub of_pieces : (pieces frames : List (List ℕ)) (held left : List ℕ) → GivenPieces (of_new held left) pieces frames
     → Frames (concat pieces) frames (held ++ left)
 of_pieces pieces frames held left g =
-    let cut = given_pieces pieces [] frames held left nothing g in
+    let split = given_pieces pieces [] frames held left nothing g in
     record {
-      whole = cut.whole;
-      each = cut.each;
-      over = elim cut.over [
+      whole = split.whole;
+      each = split.each;
+      over = elim split.over [
         | inl part ↦ subst BeginsNoFrame (sym (append-nil held) ∙ ap (λ (r : List ℕ). held ++ r) (sym part.1)) part.0.no_frame
         | inr broken ↦ broken_begins held left broken
       ];
@@ -299,7 +299,7 @@ rest_of_pieces pieces frames held left g = (given_pieces pieces [] frames held l
 -- ---- a framer goes on to the end of the pieces
 
 abbrev SomePush : List ℕ → List ℕ → Type 0
-SomePush held piece = (new : List ℕ) × (k : ℕ) × (status : Status) × Pushes (push held piece new k status)
+SomePush held piece = (new : List ℕ) × (k : ℕ) × (state : FramerState) × Pushes (push held piece new k state)
 
 push_part : (held piece : List ℕ) → IsPart held → SomePush held piece
 push_part held piece part =
@@ -330,7 +330,7 @@ some_taken : (held piece frame : List ℕ) (k : ℕ) → IsPart held → Pushes 
 some_taken held piece frame zero part p = absurd (part.no_frame frame [] p.answer (sym (p.held ∙ append-nil held) ∙ sym (append-nil frame)))
 some_taken held piece frame (suc k) part p = omega arith
 
-after_push : (held piece new : List ℕ) (k : ℕ) (status : Status) → IsPart held → Pushes (push held piece new k status)
+after_push : (held piece new : List ℕ) (k : ℕ) (state : FramerState) → IsPart held → Pushes (push held piece new k state)
     → ((k : ℕ) → 0 < k → k ≤ length piece → SomePiece [] (drop k piece)) → SomePiece held piece
 after_push held piece new k More part p go = ([], new, drop k piece, (k, More, p, (λ e. cc), refl))
 after_push held piece new k (Broken e) part p go = ([], new, drop k piece, (k, Broken e, p, (λ e. cc), refl))
@@ -366,8 +366,8 @@ pieces_some : (pieces : List (List ℕ)) (held : List ℕ) → Between held → 
 pieces_some [] held is = ([], held, [], (refl, refl, refl))
 pieces_some (piece ∷ pieces) held is =
     let one = given_some (length piece) held piece (omega arith) is in
-    let cut = given_piece one.0 held piece one.1 one.2 one.3 in
-    let more = pieces_some pieces one.1 (elim cut.over [ inl part ↦ inl part.0 | inr broken ↦ inr broken ]) in
+    let split = given_piece one.0 held piece one.1 one.2 one.3 in
+    let more = pieces_some pieces one.1 (elim split.over [ inl part ↦ inl part.0 | inr broken ↦ inr broken ]) in
     (one.0 ++ more.0, more.1, one.2 ++ more.2, (one.0, more.0, one.1, one.2, more.2, one.3, more.3, refl, refl))
 
 pub some_of_pieces : (pieces : List (List ℕ)) → (frames : List (List ℕ)) × (held left : List ℕ) × GivenPieces (of_new held left) pieces frames

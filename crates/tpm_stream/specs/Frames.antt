@@ -5,8 +5,8 @@ use Rattle.std.specs.List.{concat}
 use Rattle.tpm_wire.specs.declared.refusal.Refusal.{Refusal}
 use Rattle.tpm_wire.specs.ResponseCodes.{rc_command_size}
 use Rattle.tpm_wire.specs.Token.{number_of}
-use Rattle.tpm_stream.specs.declared.framer.Status.TheVariants.{More, Ready, Broken}
-use Rattle.tpm_stream.specs.declared.framer.Status.{Status}
+use Rattle.tpm_stream.specs.declared.framer.FramerState.TheVariants.{More, Ready, Broken}
+use Rattle.tpm_stream.specs.declared.framer.FramerState.{FramerState}
 
 -- the number that the third to sixth byte spell
 abbrev pub stated : List ℕ → ℕ
@@ -44,11 +44,11 @@ pub record Frames (stream : List ℕ) (frames : List (List ℕ)) (rest : List �
 
 -- ---- what a framer holds
 
--- The status of these bytes, which begin with no frame but themselves.
-abbrev pub IsStatus : List ℕ → Status → Type 0
-IsStatus held More = IsPart held
-IsStatus held Ready = IsFrame held
-IsStatus held (Broken e) = IsBroken held × (e ≡ bad_size)
+-- The state of these bytes, which begin with no frame but themselves.
+abbrev pub HasState : List ℕ → FramerState → Type 0
+HasState held More = IsPart held
+HasState held Ready = IsFrame held
+HasState held (Broken e) = IsBroken held × (e ≡ bad_size)
 
 -- a call of `push`: what the framer held, the piece, what it holds then, how many bytes it took, and its answer
 pub record Push : Type 0 where
@@ -56,15 +56,15 @@ pub record Push : Type 0 where
   pub piece : List ℕ
   pub new : List ℕ
   pub taken : ℕ
-  pub status : Status
+  pub state : FramerState
 
 -- It took the fewest bytes of the piece after which there is a frame or a bad size, or else all.
 pub record Pushes (p : Push) : Type 0 where
   pub within : p.taken ≤ length p.piece
   pub held : p.new ≡ p.old ++ take p.taken p.piece
-  pub answer : IsStatus p.new p.status
+  pub answer : HasState p.new p.state
   pub fewest : (j : ℕ) → j < p.taken → IsPart (p.old ++ take j p.piece)
-  pub all : p.status ≡ More → p.taken ≡ length p.piece
+  pub all : p.state ≡ More → p.taken ≡ length p.piece
 
 -- What pushes leave: part of a frame, a frame, or a size that has just come and is bad.
 abbrev pub IsHeld : List ℕ → Type 0

@@ -1,8 +1,8 @@
--- What comes of a stream that is cut into pieces, and of one that is read to its end.
+-- What comes of a stream in pieces, and of one that is read to its end.
 use Rattle.std.specs.Prelude.{◌≡◌, ◌≢◌, ℕ, List, [], ◌∷◌, ◌++◌, drop, Option, Some, Result, Ok}
 use Rattle.arrayvec.specs.ArrayVec.{ArrayVec}
-use Rattle.tpm_stream.specs.declared.framer.Status.TheVariants.{Ready}
-use Rattle.tpm_stream.specs.declared.framer.Status.{Status}
+use Rattle.tpm_stream.specs.declared.framer.FramerState.TheVariants.{Ready}
+use Rattle.tpm_stream.specs.declared.framer.FramerState.{FramerState}
 use Rattle.tpm_stream.specs.declared.reader.ReadFault.{ReadFault}
 use Rattle.tpm_stream.specs.Frames.{Pushes, Advances}
 use Rattle.tpm_stream.specs.Reads.{ReadsFrame}
@@ -21,12 +21,12 @@ of_new new left = record { old = []; new = new; left = left }
 -- given again. These frames came.
 abbrev pub GivenPiece : Framing → (piece : List ℕ) → (frames : List (List ℕ)) → Type 0
 GivenPiece f piece [] =
-    (k : ℕ) × (status : Status)
-    × Pushes (record { old = f.old; piece = piece; new = f.new; taken = k; status = status })
-    × (status ≢ Ready) × (f.left ≡ drop k piece)
+    (k : ℕ) × (state : FramerState)
+    × Pushes (record { old = f.old; piece = piece; new = f.new; taken = k; state = state })
+    × (state ≢ Ready) × (f.left ≡ drop k piece)
 GivenPiece f piece (frame ∷ frames) =
     (k : ℕ) × (next : List ℕ)
-    × Pushes (record { old = f.old; piece = piece; new = frame; taken = k; status = Ready })
+    × Pushes (record { old = f.old; piece = piece; new = frame; taken = k; state = Ready })
     × Advances frame next
     × GivenPiece (record { old = next; new = f.new; left = f.left }) (drop k piece) frames
 

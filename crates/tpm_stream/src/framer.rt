@@ -92,7 +92,7 @@ impl Held {
 
 /// What a framer holds.
 #[derive(Clone, Copy, Debug, PartialEq, Eq)]
-pub enum Status {
+pub enum FramerState {
     /// Less than a frame.
     More,
     /// A frame.
@@ -101,7 +101,7 @@ pub enum Status {
     Broken(Refusal),
 }
 
-/// Cuts a stream that comes in pieces into its frames: buffers of 10 to 4,096 bytes that state their size in their
+/// Splits a stream that comes in pieces into its frames: buffers of 10 to 4,096 bytes that state their size in their
 /// third to sixth byte (Part 1, "Command/Response Structure"). It looks at the size alone, not at the tag.
 ///
 /// A framer at a refused size is broken, and stays so.
@@ -132,13 +132,13 @@ impl Framer {
     /// Takes bytes of the piece up to the end of the present frame, and no further. The answer is how many were taken,
     /// and what is held then. A size outside of 10 to 4,096 is refused once its last byte has come. Where a frame is
     /// held, or the framer is broken, nothing is taken.
-    pub fn push(&mut self, piece: &[u8]) -> (usize, Status)
+    pub fn push(&mut self, piece: &[u8]) -> (usize, FramerState)
         ensures { Pushes (record {
           old = self.old;
           piece = piece.now;
           new = self.new;
           taken = result.0;
-          status = result.1;
+          state = result.1;
         }) }
     {
         if self.held.len() == 0 && SIZE_END <= piece.len() {
@@ -197,7 +197,7 @@ pub(crate) fn stated_size(bytes: &[u8]) -> Result<usize, Refusal>
 
 // Takes bytes of a piece that begins a frame of this size.
 #[inline]
-fn begin(held: &mut Held, size: usize, piece: &[u8]) -> (usize, Status)
+fn begin(held: &mut Held, size: usize, piece: &[u8]) -> (usize, FramerState)
     requires empty { held.old ≡ [] }
     requires size { (6 ≤ length piece.now)
         × (size ≡ stated piece.now)
@@ -208,42 +208,42 @@ fn begin(held: &mut Held, size: usize, piece: &[u8]) -> (usize, Status)
       piece = piece.now;
       new = held.new;
       taken = result.0;
-      status = result.1;
+      state = result.1;
     }) }
     ensures held { IsHeld held.new }
 {
     let taken = held.take_up_to(size, piece);
-    let status = if taken < size {
-        Status::More
+    let state = if taken < size {
+        FramerState::More
     } else {
-        Status::Ready
+        FramerState::Ready
     };
-    (taken, status)
+    (taken, state)
 }
 
 // Takes bytes of a piece behind what is held.
-fn go_on(held: &mut Held, piece: &[u8]) -> (usize, Status)
+fn go_on(held: &mut Held, piece: &[u8]) -> (usize, FramerState)
     requires { IsHeld held.old }
     ensures pushes { Pushes (record {
       old = held.old;
       piece = piece.now;
       new = held.new;
       taken = result.0;
-      status = result.1;
+      state = result.1;
     }) }
     ensures held { IsHeld held.new }
 {
     let size_bytes = held.take_up_to(SIZE_END, piece);
     if held.len() < SIZE_END {
-        return (size_bytes, Status::More);
+        return (size_bytes, FramerState::More);
     }
     let size = match stated_size(held.as_slice()) {
         Ok(size) => size,
-        Err(refusal) => return (size_bytes, Status::Broken(refusal)),
+        Err(refusal) => return (size_bytes, FramerState::Broken(refusal)),
     };
     let taken = size_bytes + held.take_up_to(size, &piece[size_bytes..]);
     if held.len() < size {
-        return (taken, Status::More);
+        return (taken, FramerState::More);
     }
-    (taken, Status::Ready)
+    (taken, FramerState::Ready)
 }

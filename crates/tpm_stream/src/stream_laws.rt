@@ -5,7 +5,7 @@ ghost use Rattle.std.specs.List.{concat};
 ghost use Rattle.tpm_wire.specs.Sources.{OfBytes};
 ghost use Rattle.tpm_wire.specs.declared.refusal.Refusal.{Refusal};
 ghost use Rattle.tpm_stream.specs.declared.reader.ReadFault.TheVariants.{EndInside, Broken};
-ghost use Rattle.tpm_stream.specs.declared.framer.Status.TheVariants.{Broken as BrokenFramer};
+ghost use Rattle.tpm_stream.specs.declared.framer.FramerState.TheVariants.{Broken as BrokenFramer};
 ghost use Rattle.tpm_stream.specs.Frames.{IsFrame, IsPart, IsBroken, Frames, Push, Pushes, Advances, bad_size};
 ghost use Rattle.tpm_stream.specs.Streams.{GivenPieces, ReadInTurn, of_new};
 
@@ -24,7 +24,7 @@ pub fn frames_of_a_stream()
         → Frames (frame ++ stream) (frame ∷ frames) rest }
 {}
 
-/// However a stream is cut into pieces, what a new framer gives of them are its frames. The framer takes all bytes but
+/// In whatever pieces a stream comes, what a new framer gives of them are its frames. The framer takes all bytes but
 /// those behind a size that no frame has.
 pub fn frames_of_pieces()
     ensures some { (pieces : List (List ℕ))
@@ -33,7 +33,7 @@ pub fn frames_of_pieces()
     ensures frames { (pieces frames : List (List ℕ)) (held left : List ℕ)
         → GivenPieces (of_new held left) pieces frames
         → Frames (concat pieces) frames (held ++ left) }
-    ensures cut { (pieces others frames found : List (List ℕ)) (held left kept unused : List ℕ)
+    ensures split { (pieces others frames found : List (List ℕ)) (held left kept unused : List ℕ)
         → concat pieces ≡ concat others
         → GivenPieces (of_new held left) pieces frames
         → GivenPieces (of_new kept unused) others found
@@ -47,7 +47,7 @@ pub fn frames_of_pieces()
 /// same refusal, and `next` changes nothing.
 pub fn broken_for_ever()
     ensures push { (p : Push) → IsBroken p.old → Pushes p
-        → (p.taken ≡ 0) × (p.new ≡ p.old) × (p.status ≡ BrokenFramer bad_size) }
+        → (p.taken ≡ 0) × (p.new ≡ p.old) × (p.state ≡ BrokenFramer bad_size) }
     ensures next { (held new : List ℕ) → IsBroken held → Advances held new → new ≡ held }
 {}
 

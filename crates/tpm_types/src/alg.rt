@@ -6,7 +6,7 @@ ghost use Rattle.tpm_types.specs.Alg.{alg_of, alg_number, alg_name, digest_len, 
 
 use crate::limits::BANKS;
 use tpm_wire::response_code::HASH;
-use tpm_wire::{Buffer, Cursor, Duplicate, Refusal, Wire};
+use tpm_wire::{Cursor, Duplicate, Refusal, Room, Wire};
 
 /// A hash algorithm, which has a bank of registers.
 #[derive(Clone, Copy, Debug, PartialEq, Eq)]
@@ -106,7 +106,7 @@ impl Wire for Alg {
         2
     }
 
-    fn put(&self, out: &mut Buffer) {
+    fn put<R: Room>(&self, out: &mut R) {
         self.number().put(out);
     }
 

@@ -9,7 +9,7 @@ use crate::lent::Lent;
 use crate::tpm2b::Digest;
 use crate::tpml::Selections;
 use tpm_wire::response_code::VALUE;
-use tpm_wire::{Buffer, Cursor, Refusal, Wire};
+use tpm_wire::{Cursor, Refusal, Room, Wire};
 
 /// What a quote says of the registers: TPMS_QUOTE_INFO (Part 2, 10.12.4).
 #[derive(Drop)]
@@ -40,7 +40,7 @@ impl Wire for QuoteInfo {
         self.selections.len() + self.digest.len()
     }
 
-    fn put(&self, out: &mut Buffer) {
+    fn put<R: Room>(&self, out: &mut R) {
         self.selections.put(out);
         self.digest.put(out);
     }
@@ -79,9 +79,9 @@ fn known_yes_no(x: bool)
 }
 
 #[tactic(auto, unfolding(crate::specs::Attest::yes_no))]
-fn put_yes_no(x: bool, out: &mut Buffer)
-    requires { length out.old.items + length (spelling yes_no x) ≤ 4096 }
-    ensures { out.new.items ≡ out.old.items ++ spelling yes_no x }
+fn put_yes_no<R: Room>(x: bool, out: &mut R)
+    requires { length (R.written out.old) + length (spelling yes_no x) ≤ R.size }
+    ensures { R.written out.new ≡ R.written out.old ++ spelling yes_no x }
 {
     match x {
         false => 0u8.put(out),
@@ -123,7 +123,7 @@ impl Wire for ClockInfo {
         17
     }
 
-    fn put(&self, out: &mut Buffer) {
+    fn put<R: Room>(&self, out: &mut R) {
         self.clock.put(out);
         self.reset_count.put(out);
         self.restart_count.put(out);
@@ -197,9 +197,9 @@ impl<'a> Attest<'a> {
     }
 
     /// Adds its spelling to the buffer, which has room for it: the bytes that are signed.
-    pub fn put(&self, out: &mut Buffer)
-        requires { length out.old.items + length (spelling attest self.now) ≤ 4096 }
-        ensures { out.new.items ≡ out.old.items ++ spelling attest self.now }
+    pub fn put<R: Room>(&self, out: &mut R)
+        requires { length (R.written out.old) + length (spelling attest self.now) ≤ R.size }
+        ensures { R.written out.new ≡ R.written out.old ++ spelling attest self.now }
     {
         GENERATED_VALUE.put(out);
         ATTEST_QUOTE.put(out);

@@ -3,7 +3,7 @@
 ghost use Rattle.std.specs.Prelude.{◌≡◌, Some};
 
 use tpm_wire::response_code::VALUE;
-use tpm_wire::{Buffer, Cursor, Refusal, Wire};
+use tpm_wire::{Cursor, Refusal, Room, Wire};
 
 /// How a device starts: TPM_SU (Part 2, 6.10).
 #[derive(Clone, Copy, Debug, PartialEq, Eq)]
@@ -57,7 +57,7 @@ impl Wire for StartupType {
         2
     }
 
-    fn put(&self, out: &mut Buffer) {
+    fn put<R: Room>(&self, out: &mut R) {
         self.number().put(out);
     }
 
@@ -123,7 +123,7 @@ impl Wire for SessionType {
         1
     }
 
-    fn put(&self, out: &mut Buffer) {
+    fn put<R: Room>(&self, out: &mut R) {
         self.number().put(out);
     }
 
@@ -185,7 +185,7 @@ impl Wire for KeyBits {
         2
     }
 
-    fn put(&self, out: &mut Buffer) {
+    fn put<R: Room>(&self, out: &mut R) {
         self.number().put(out);
     }
 

@@ -7,7 +7,7 @@ ghost use Rattle.tpm_wire.specs.Buffers.{Takes};
 
 use std::marker::Model;
 use tpm_wire::response_code::{INSUFFICIENT, SIZE};
-use tpm_wire::{Buffer, Cursor, Refusal, Wire, put_bytes};
+use tpm_wire::{Cursor, Refusal, Room, Wire, put_bytes};
 
 /// At most `N` bytes, lent from where they are. In a buffer their number lies before them, in 2 bytes.
 #[derive(Drop)]
@@ -84,9 +84,11 @@ impl<'a, const N: usize> Lent<'a, N> {
 
     /// Adds the spelling at the end.
     #[tactic(auto, unfolding(tpm_wire::specs::Structures::sized_bytes))]
-    pub fn put(&self, out: &mut Buffer)
-        requires { length out.old.items + length (spelling (sized_bytes N) self.now) ≤ 4096 }
-        ensures { out.new.items ≡ out.old.items ++ spelling (sized_bytes N) self.now }
+    pub fn put<R: Room>(&self, out: &mut R)
+        requires { length (R.written out.old)
+            + length (spelling (sized_bytes N) self.now)
+            ≤ R.size }
+        ensures { R.written out.new ≡ R.written out.old ++ spelling (sized_bytes N) self.now }
     {
         (self.bytes.len() as u16).put(out);
         put_bytes(out, self.bytes);

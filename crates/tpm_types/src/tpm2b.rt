@@ -5,7 +5,7 @@ ghost use Rattle.std.specs.Int.{to_be_bytes, w32};
 
 use crate::limits::{DIGEST_BYTES, NAME_BYTES};
 use tpm_wire::response_code::VALUE;
-use tpm_wire::{Bounded, Buffer, Cursor, Refusal, Wire};
+use tpm_wire::{Bounded, Cursor, Refusal, Room, Wire};
 
 /// A digest: TPM2B_DIGEST (Part 2, 10.4.2), at most as many bytes as the longest digest of a bank.
 pub type Digest = Bounded<DIGEST_BYTES>;
@@ -51,7 +51,7 @@ impl Wire for EncryptedSalt {
         2
     }
 
-    fn put(&self, out: &mut Buffer) {
+    fn put<R: Room>(&self, out: &mut R) {
         0u16.put(out);
     }
 

@@ -8,7 +8,7 @@ ghost use Rattle.tpm_types.specs.Tpma.{is_readable, is_undefinable};
 
 use std::marker::Model;
 use tpm_wire::response_code::RESERVED_BITS;
-use tpm_wire::{Buffer, Cursor, Refusal, Wire};
+use tpm_wire::{Cursor, Refusal, Room, Wire};
 
 const CONTINUE_SESSION: u8 = 1 << 0;
 
@@ -99,7 +99,7 @@ impl Wire for SessionAttrs {
         1
     }
 
-    fn put(&self, out: &mut Buffer) {
+    fn put<R: Room>(&self, out: &mut R) {
         self.number().put(out);
     }
 
@@ -299,7 +299,7 @@ impl Wire for NvAttrs {
         4
     }
 
-    fn put(&self, out: &mut Buffer) {
+    fn put<R: Room>(&self, out: &mut R) {
         self.number().put(out);
     }
 

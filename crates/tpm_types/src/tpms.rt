@@ -6,7 +6,7 @@ use crate::limits::PUBLIC_BYTES;
 use crate::tpm2b::{AuthValue, Digest, Nonce};
 use crate::tpma::{NvAttrs, SessionAttrs};
 use tpm_wire::response_code::{INSUFFICIENT, SIZE, VALUE};
-use tpm_wire::{Buffer, Cursor, Duplicate, Refusal, Wire, put_bytes};
+use tpm_wire::{Cursor, Duplicate, Refusal, Room, Wire, put_bytes};
 
 /// How many bytes of bits a selection has, one bit for each register.
 pub const SELECT_BYTES: usize = 3;
@@ -56,7 +56,7 @@ impl Wire for Selection {
         self.hash.len() + 1 + SELECT_BYTES
     }
 
-    fn put(&self, out: &mut Buffer) {
+    fn put<R: Room>(&self, out: &mut R) {
         self.hash.put(out);
         (SELECT_BYTES as u8).put(out);
         put_bytes(out, &self.select);
@@ -123,7 +123,7 @@ impl Wire for Auth {
         self.session.len() + self.nonce.len() + self.attrs.len() + self.hmac.len()
     }
 
-    fn put(&self, out: &mut Buffer) {
+    fn put<R: Room>(&self, out: &mut R) {
         self.session.put(out);
         self.nonce.put(out);
         self.attrs.put(out);
@@ -179,7 +179,7 @@ impl Wire for AuthReply {
         self.nonce.len() + self.attrs.len() + self.hmac.len()
     }
 
-    fn put(&self, out: &mut Buffer) {
+    fn put<R: Room>(&self, out: &mut R) {
         self.nonce.put(out);
         self.attrs.put(out);
         self.hmac.put(out);
@@ -237,9 +237,9 @@ impl NvPublic {
     }
 
     /// Adds the area at the end, TPMS_NV_PUBLIC: the bytes that the Name of the index is made of (Part 1, Names).
-    pub fn put_area(&self, out: &mut Buffer)
-        requires { length out.old.items + length (spelling nv_public_area self.now) ≤ 4096 }
-        ensures { out.new.items ≡ out.old.items ++ spelling nv_public_area self.now }
+    pub fn put_area<R: Room>(&self, out: &mut R)
+        requires { length (R.written out.old) + length (spelling nv_public_area self.now) ≤ R.size }
+        ensures { R.written out.new ≡ R.written out.old ++ spelling nv_public_area self.now }
     {
         self.index.put(out);
         self.alg.put(out);
@@ -295,7 +295,7 @@ impl Wire for NvPublic {
     }
 
     #[inline(never)]
-    fn put(&self, out: &mut Buffer) {
+    fn put<R: Room>(&self, out: &mut R) {
         (self.area_len() as u16).put(out);
         self.put_area(out);
     }

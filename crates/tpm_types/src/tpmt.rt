@@ -9,7 +9,7 @@ use crate::constants::KeyBits;
 use crate::limits::DIGEST_BYTES;
 use std::marker::Model;
 use tpm_wire::response_code::{INSUFFICIENT, MODE, SYMMETRIC};
-use tpm_wire::{Buffer, Cursor, Duplicate, Refusal, Wire, put_bytes};
+use tpm_wire::{Cursor, Duplicate, Refusal, Room, Wire, put_bytes};
 
 /// A hash, and a digest of as many bytes as it gives: TPMT_HA (Part 2, 10.3.2).
 #[derive(Drop)]
@@ -100,7 +100,7 @@ impl Wire for HashedDigest {
         self.hash.len() + self.hash.digest_len()
     }
 
-    fn put(&self, out: &mut Buffer) {
+    fn put<R: Room>(&self, out: &mut R) {
         self.hash.put(out);
         put_bytes(out, self.digest());
     }
@@ -172,7 +172,7 @@ impl Wire for SymDef {
         }
     }
 
-    fn put(&self, out: &mut Buffer) {
+    fn put<R: Room>(&self, out: &mut R) {
         match self {
             SymDef::Null => NULL.put(out),
             SymDef::Aes(bits) => {

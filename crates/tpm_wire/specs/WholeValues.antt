@@ -1,5 +1,5 @@
 -- A value that all of the bytes spell.
-use Rattle.std.specs.Prelude.{ℕ, List, length, take, Result, Ok, Err, nat_le, ◌==◌, ◌&&◌, if◌then◌else◌}
+use Rattle.std.specs.Prelude.{◌≡◌, ℕ, ◌<◌, List, length, take, Result, Ok, Err, nat_le, ◌==◌, ◌&&◌, if◌then◌else◌}
 use Rattle.tpm_wire.specs.declared.refusal.Refusal.{Refusal}
 use Rattle.tpm_wire.specs.ResponseCodes.{rc_size}
 use Rattle.tpm_wire.specs.Token.{Here, at_start}
@@ -9,6 +9,11 @@ use Rattle.tpm_wire.specs.Buffers.{Layout}
 -- the fault of bytes that are left over from here on
 abbrev pub left_over : Here → Refusal
 left_over h = record { code = rc_size; at = h.at }
+
+-- Nothing is left in the area, or what is left is refused at its first byte.
+abbrev pub Ends : Here → Result (Unit {0}) Refusal → Type 0
+Ends h (Ok x) = length h.rest ≡ 0
+Ends h (Err e) = (0 < length h.rest) × (e ≡ left_over h)
 
 -- The value that was read in the first 4,096 of the bytes, where these are all and end behind it; else bytes are left
 -- over.

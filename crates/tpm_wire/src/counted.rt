@@ -12,7 +12,8 @@ use crate::duplicate::Duplicate;
 use crate::list::{capped_len, known_list, put_list, read_list};
 use crate::refusal::Refusal;
 use crate::response_code::SIZE;
-use crate::wire::{Buffer, Wire};
+use crate::room::Room;
+use crate::wire::Wire;
 use arrayvec::ArrayVec;
 use std::marker::Model;
 
@@ -143,7 +144,7 @@ impl<T: Wire + Default + Duplicate + Drop, const LEAST: usize, const MOST: usize
     }
 
     #[inline(never)]
-    fn put(&self, out: &mut Buffer) {
+    fn put<R: Room>(&self, out: &mut R) {
         (self.entries.len() as u32).put(out);
         put_list(self.entries.as_slice(), out);
     }

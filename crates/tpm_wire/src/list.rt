@@ -9,7 +9,8 @@ ghost use Rattle.tpm_wire.specs.Spelling.{IsSpelled, joined_all};
 
 use crate::cursor::Cursor;
 use crate::refusal::Refusal;
-use crate::wire::{Buffer, Wire};
+use crate::room::Room;
+use crate::wire::Wire;
 use arrayvec::ArrayVec;
 
 /// Reads so many entries in the place of those that were there, or answers the first fault in one of them. Which
@@ -92,9 +93,9 @@ pub fn known_list<T: Wire>(entries: &[T])
 }
 
 /// Adds the entries' spellings at the end.
-pub fn put_list<T: Wire>(entries: &[T], out: &mut Buffer)
-    requires { length out.old.items + length (joined_all T.layout entries.now) ≤ 4096 }
-    ensures { out.new.items ≡ out.old.items ++ joined_all T.layout entries.now }
+pub fn put_list<T: Wire, R: Room>(entries: &[T], out: &mut R)
+    requires { length (R.written out.old) + length (joined_all T.layout entries.now) ≤ R.size }
+    ensures { R.written out.new ≡ R.written out.old ++ joined_all T.layout entries.now }
 {
     for entry in entries {
         entry.put(out);

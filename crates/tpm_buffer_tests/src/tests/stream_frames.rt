@@ -3,7 +3,7 @@
 use crate::tests::buffer_checks::bytes;
 use std::process::Abort;
 use std::test::*;
-use tpm_stream::{Framer, ReadFault, Status, read_frame, read_frame_into};
+use tpm_stream::{Framer, FramerState, ReadFault, read_frame, read_frame_into};
 use tpm_testing::Pieces;
 use tpm_wire::{Buffer, Reads, Refusal, SliceSource, Source};
 
@@ -86,11 +86,11 @@ next
 next
 8001 00000014 0000017e 00000001 000b 03 010000 -> 0 broken";
 
-fn status(text: &str) -> Status {
+fn status(text: &str) -> FramerState {
     match text {
-        "more" => Status::More,
-        "ready" => Status::Ready,
-        _ => Status::Broken(BAD_SIZE),
+        "more" => FramerState::More,
+        "ready" => FramerState::Ready,
+        _ => FramerState::Broken(BAD_SIZE),
     }
 }
 
@@ -129,7 +129,7 @@ fn a_bad_size_breaks_the_framer_for_ever(rt: HostRuntime) {
     for text in BROKEN {
         let mut framer = Framer::new();
         let pushed = framer.push(bytes(&rt, text).as_slice());
-        assert!(&rt; pushed == (6, Status::Broken(BAD_SIZE)), "{text}");
+        assert!(&rt; pushed == (6, FramerState::Broken(BAD_SIZE)), "{text}");
         takes_steps(&rt, &mut framer, BEHIND);
     }
 }
@@ -139,8 +139,8 @@ fn the_greatest_size_is_framed(rt: HostRuntime) {
     let mut most = [0; 4097];
     most[4] = 0x10;
     let mut framer = Framer::new();
-    assert!(&rt; framer.push(&most[..4095]) == (4095, Status::More));
-    assert!(&rt; framer.push(&most[4095..]) == (1, Status::Ready));
+    assert!(&rt; framer.push(&most[..4095]) == (4095, FramerState::More));
+    assert!(&rt; framer.push(&most[4095..]) == (1, FramerState::Ready));
     assert!(&rt; framer.frame().unwrap_or(&[]) == &most[..4096]);
 }
 

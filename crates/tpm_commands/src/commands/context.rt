@@ -10,7 +10,7 @@ ghost use Rattle.tpm_commands.specs.Parameters.{flush_context};
 use crate::commands::Row;
 use tpm_types::SessionHandle;
 use tpm_wire::response_code::of_parameter;
-use tpm_wire::{Buffer, Cursor, Refusal, Wire};
+use tpm_wire::{Cursor, Refusal, Room, Wire};
 
 // ---- TPM2_FlushContext (28.4), whose handle is a parameter
 
@@ -55,12 +55,12 @@ pub(crate) fn flush_context_len(session: SessionHandle) -> usize
 
 #[tactic(auto, unfolding(crate::specs::Parameters::flush_context))]
 #[inline(always)]
-pub(crate) fn put_flush_context(session: SessionHandle, out: &mut Buffer)
-    requires { length out.old.items
+pub(crate) fn put_flush_context<R: Room>(session: SessionHandle, out: &mut R)
+    requires { length (R.written out.old)
         + length (spelling flush_context (params.FlushContext session))
-        ≤ 4096 }
-    ensures { out.new.items
-        ≡ out.old.items ++ spelling flush_context (params.FlushContext session) }
+        ≤ R.size }
+    ensures { R.written out.new
+        ≡ R.written out.old ++ spelling flush_context (params.FlushContext session) }
 {
     session.put(out);
 }

@@ -3,7 +3,7 @@
 ghost use Rattle.std.specs.Prelude.{◌≡◌, ◌≤◌, ◌+◌, ◌++◌, length, ℕ, None, OnOk};
 ghost use Rattle.tpm_wire.specs.Spelling.{spelling, Fits};
 ghost use Rattle.tpm_wire.specs.Buffers.{TakesNumbered};
-ghost use Rattle.tpm_commands.specs.Limits.{most_params};
+ghost use Rattle.tpm_commands.specs.Limits.{most_params, most_reply_params};
 ghost use Rattle.tpm_types.specs.declared.command_code.CommandCode.TheVariants as codes;
 ghost use Rattle.tpm_commands.specs.declared.command_parameters.Params.TheVariants as params;
 ghost use Rattle.tpm_commands.specs.declared.response.ReplyBody.TheVariants as replies;
@@ -15,7 +15,7 @@ use crate::commands::Row;
 use crate::response::{NvData, ReplyBody};
 use tpm_types::{Alg, AuthValue, Digest, Name, NvAttrs, NvIndex, NvPublic};
 use tpm_wire::response_code::of_parameter;
-use tpm_wire::{Buffer, Cursor, Refusal, Wire};
+use tpm_wire::{Cursor, Refusal, Room, Wire};
 
 // ---- TPM2_NV_DefineSpace (31.3)
 
@@ -73,12 +73,12 @@ pub(crate) fn nv_define_space_len(auth: &AuthValue, public: &NvPublic) -> usize
 
 #[tactic(auto, unfolding(crate::specs::Parameters::nv_define_space))]
 #[inline(always)]
-pub(crate) fn put_nv_define_space(auth: &AuthValue, public: &NvPublic, out: &mut Buffer)
-    requires { length out.old.items
+pub(crate) fn put_nv_define_space<R: Room>(auth: &AuthValue, public: &NvPublic, out: &mut R)
+    requires { length (R.written out.old)
         + length (spelling nv_define_space (params.NvDefineSpace auth.now public.now))
-        ≤ 4096 }
-    ensures { out.new.items
-        ≡ out.old.items ++ spelling nv_define_space (params.NvDefineSpace auth.now public.now) }
+        ≤ R.size }
+    ensures { R.written out.new
+        ≡ R.written out.old ++ spelling nv_define_space (params.NvDefineSpace auth.now public.now) }
 {
     auth.put(out);
     public.put(out);
@@ -122,7 +122,7 @@ pub(crate) fn read_nv_read_public_reply(
 pub(crate) fn nv_read_public_reply_len(public: &NvPublic, name: &Name) -> usize
     ensures value { result
         ≡ length (spelling nv_read_public_reply (replies.NvReadPublic public.now name.now)) }
-    ensures fits { result ≤ most_params }
+    ensures fits { result ≤ most_reply_params }
     ensures spelled { (left : ℕ)
         → Fits left nv_read_public_reply (replies.NvReadPublic public.now name.now) }
 {
@@ -133,12 +133,12 @@ pub(crate) fn nv_read_public_reply_len(public: &NvPublic, name: &Name) -> usize
 
 #[tactic(auto, unfolding(crate::specs::Replies::nv_read_public_reply))]
 #[inline(always)]
-pub(crate) fn put_nv_read_public_reply(public: &NvPublic, name: &Name, out: &mut Buffer)
-    requires { length out.old.items
+pub(crate) fn put_nv_read_public_reply<R: Room>(public: &NvPublic, name: &Name, out: &mut R)
+    requires { length (R.written out.old)
         + length (spelling nv_read_public_reply (replies.NvReadPublic public.now name.now))
-        ≤ 4096 }
-    ensures { out.new.items
-        ≡ out.old.items
+        ≤ R.size }
+    ensures { R.written out.new
+        ≡ R.written out.old
         ++ spelling nv_read_public_reply (replies.NvReadPublic public.now name.now) }
 {
     public.put(out);
@@ -193,9 +193,12 @@ pub(crate) fn nv_read_len(size: u16, offset: u16) -> usize
 
 #[tactic(auto, unfolding(crate::specs::Parameters::nv_read))]
 #[inline(always)]
-pub(crate) fn put_nv_read(size: u16, offset: u16, out: &mut Buffer)
-    requires { length out.old.items + length (spelling nv_read (params.NvRead size offset)) ≤ 4096 }
-    ensures { out.new.items ≡ out.old.items ++ spelling nv_read (params.NvRead size offset) }
+pub(crate) fn put_nv_read<R: Room>(size: u16, offset: u16, out: &mut R)
+    requires { length (R.written out.old)
+        + length (spelling nv_read (params.NvRead size offset))
+        ≤ R.size }
+    ensures { R.written out.new
+        ≡ R.written out.old ++ spelling nv_read (params.NvRead size offset) }
 {
     size.put(out);
     offset.put(out);
@@ -220,7 +223,7 @@ pub(crate) fn read_nv_read_reply(
 #[inline(always)]
 pub(crate) fn nv_read_reply_len(bytes: &NvData) -> usize
     ensures value { result ≡ length (spelling nv_read_reply (replies.NvRead bytes.now)) }
-    ensures fits { result ≤ most_params }
+    ensures fits { result ≤ most_reply_params }
     ensures spelled { (left : ℕ) → Fits left nv_read_reply (replies.NvRead bytes.now) }
 {
     bytes.has_spelling();
@@ -229,10 +232,12 @@ pub(crate) fn nv_read_reply_len(bytes: &NvData) -> usize
 
 #[tactic(auto, unfolding(crate::specs::Replies::nv_read_reply))]
 #[inline(always)]
-pub(crate) fn put_nv_read_reply(bytes: &NvData, out: &mut Buffer)
-    requires { length out.old.items + length (spelling nv_read_reply (replies.NvRead bytes.now))
-        ≤ 4096 }
-    ensures { out.new.items ≡ out.old.items ++ spelling nv_read_reply (replies.NvRead bytes.now) }
+pub(crate) fn put_nv_read_reply<R: Room>(bytes: &NvData, out: &mut R)
+    requires { length (R.written out.old)
+        + length (spelling nv_read_reply (replies.NvRead bytes.now))
+        ≤ R.size }
+    ensures { R.written out.new
+        ≡ R.written out.old ++ spelling nv_read_reply (replies.NvRead bytes.now) }
 {
     bytes.put(out);
 }

@@ -3,7 +3,7 @@
 ghost use Rattle.std.specs.Prelude.{◌≡◌, ◌≤◌, ◌+◌, ◌++◌, length, ℕ, None, IfOk, OnOk};
 ghost use Rattle.tpm_wire.specs.Spelling.{spelling, Fits};
 ghost use Rattle.tpm_wire.specs.Buffers.{TakesNumbered};
-ghost use Rattle.tpm_commands.specs.Limits.{most_params};
+ghost use Rattle.tpm_commands.specs.Limits.{most_params, most_reply_params};
 ghost use Rattle.tpm_types.specs.declared.command_code.CommandCode.TheVariants as codes;
 ghost use Rattle.tpm_commands.specs.declared.command_parameters.Params.TheVariants as params;
 ghost use Rattle.tpm_commands.specs.declared.response.ReplyBody.TheVariants as replies;
@@ -16,7 +16,7 @@ use crate::lent::Event;
 use crate::response::ReplyBody;
 use tpm_types::{DigestValues, Digests, Selections};
 use tpm_wire::response_code::of_parameter;
-use tpm_wire::{Buffer, Cursor, Refusal, Wire};
+use tpm_wire::{Cursor, Refusal, Room, Wire};
 
 // ---- TPM2_PCR_Extend (22.2)
 
@@ -52,10 +52,12 @@ pub(crate) fn pcr_extend_len(digests: &DigestValues) -> usize
 
 #[tactic(auto, unfolding(crate::specs::Parameters::pcr_extend))]
 #[inline(always)]
-pub(crate) fn put_pcr_extend(digests: &DigestValues, out: &mut Buffer)
-    requires { length out.old.items + length (spelling pcr_extend (params.PcrExtend digests.now))
-        ≤ 4096 }
-    ensures { out.new.items ≡ out.old.items ++ spelling pcr_extend (params.PcrExtend digests.now) }
+pub(crate) fn put_pcr_extend<R: Room>(digests: &DigestValues, out: &mut R)
+    requires { length (R.written out.old)
+        + length (spelling pcr_extend (params.PcrExtend digests.now))
+        ≤ R.size }
+    ensures { R.written out.new
+        ≡ R.written out.old ++ spelling pcr_extend (params.PcrExtend digests.now) }
 {
     digests.put(out);
 }
@@ -99,10 +101,11 @@ pub(crate) fn pcr_event_len(event: &Event<'_>) -> usize
 
 #[tactic(auto, unfolding(crate::specs::Parameters::pcr_event))]
 #[inline(always)]
-pub(crate) fn put_pcr_event(event: &Event<'_>, out: &mut Buffer)
-    requires { length out.old.items + length (spelling pcr_event (params.PcrEvent event.now))
-        ≤ 4096 }
-    ensures { out.new.items ≡ out.old.items ++ spelling pcr_event (params.PcrEvent event.now) }
+pub(crate) fn put_pcr_event<R: Room>(event: &Event<'_>, out: &mut R)
+    requires { length (R.written out.old) + length (spelling pcr_event (params.PcrEvent event.now))
+        ≤ R.size }
+    ensures { R.written out.new
+        ≡ R.written out.old ++ spelling pcr_event (params.PcrEvent event.now) }
 {
     event.put(out);
 }
@@ -126,7 +129,7 @@ pub(crate) fn read_pcr_event_reply(
 #[inline(always)]
 pub(crate) fn pcr_event_reply_len(digests: &DigestValues) -> usize
     ensures value { result ≡ length (spelling pcr_event_reply (replies.PcrEvent digests.now)) }
-    ensures fits { result ≤ most_params }
+    ensures fits { result ≤ most_reply_params }
     ensures spelled { (left : ℕ) → Fits left pcr_event_reply (replies.PcrEvent digests.now) }
 {
     digests.has_spelling();
@@ -135,12 +138,12 @@ pub(crate) fn pcr_event_reply_len(digests: &DigestValues) -> usize
 
 #[tactic(auto, unfolding(crate::specs::Replies::pcr_event_reply))]
 #[inline(always)]
-pub(crate) fn put_pcr_event_reply(digests: &DigestValues, out: &mut Buffer)
-    requires { length out.old.items
+pub(crate) fn put_pcr_event_reply<R: Room>(digests: &DigestValues, out: &mut R)
+    requires { length (R.written out.old)
         + length (spelling pcr_event_reply (replies.PcrEvent digests.now))
-        ≤ 4096 }
-    ensures { out.new.items
-        ≡ out.old.items ++ spelling pcr_event_reply (replies.PcrEvent digests.now) }
+        ≤ R.size }
+    ensures { R.written out.new
+        ≡ R.written out.old ++ spelling pcr_event_reply (replies.PcrEvent digests.now) }
 {
     digests.put(out);
 }
@@ -180,10 +183,12 @@ pub(crate) fn pcr_read_len(selections: &Selections) -> usize
 
 #[tactic(auto, unfolding(crate::specs::Parameters::pcr_read))]
 #[inline(always)]
-pub(crate) fn put_pcr_read(selections: &Selections, out: &mut Buffer)
-    requires { length out.old.items + length (spelling pcr_read (params.PcrRead selections.now))
-        ≤ 4096 }
-    ensures { out.new.items ≡ out.old.items ++ spelling pcr_read (params.PcrRead selections.now) }
+pub(crate) fn put_pcr_read<R: Room>(selections: &Selections, out: &mut R)
+    requires { length (R.written out.old)
+        + length (spelling pcr_read (params.PcrRead selections.now))
+        ≤ R.size }
+    ensures { R.written out.new
+        ≡ R.written out.old ++ spelling pcr_read (params.PcrRead selections.now) }
 {
     selections.put(out);
 }
@@ -241,7 +246,7 @@ pub(crate) fn pcr_read_reply_len(
     ensures value { result
         ≡ length
         (spelling pcr_read_reply (replies.PcrRead update_counter selections.now digests.now)) }
-    ensures fits { result ≤ most_params }
+    ensures fits { result ≤ most_reply_params }
     ensures spelled { (left : ℕ)
         → Fits left pcr_read_reply (replies.PcrRead update_counter selections.now digests.now) }
 {
@@ -253,19 +258,19 @@ pub(crate) fn pcr_read_reply_len(
 
 #[tactic(auto, unfolding(crate::specs::Replies::pcr_read_reply))]
 #[inline(always)]
-pub(crate) fn put_pcr_read_reply(
+pub(crate) fn put_pcr_read_reply<R: Room>(
     update_counter: u32,
     selections: &Selections,
     digests: &Digests,
-    out: &mut Buffer,
+    out: &mut R,
 )
-    requires { length out.old.items
+    requires { length (R.written out.old)
         + length
         (spelling pcr_read_reply
         (replies.PcrRead update_counter selections.now digests.now))
-        ≤ 4096 }
-    ensures { out.new.items
-        ≡ out.old.items
+        ≤ R.size }
+    ensures { R.written out.new
+        ≡ R.written out.old
         ++ spelling pcr_read_reply (replies.PcrRead update_counter selections.now digests.now) }
 {
     update_counter.put(out);

@@ -3,7 +3,7 @@
 ghost use Rattle.std.specs.Prelude.{◌≡◌, ◌≤◌, ◌+◌, ◌++◌, length, ℕ, None, OnOk};
 ghost use Rattle.tpm_wire.specs.Spelling.{spelling, Fits};
 ghost use Rattle.tpm_wire.specs.Buffers.{TakesNumbered};
-ghost use Rattle.tpm_commands.specs.Limits.{most_params};
+ghost use Rattle.tpm_commands.specs.Limits.{most_params, most_reply_params};
 ghost use Rattle.tpm_types.specs.declared.command_code.CommandCode.TheVariants as codes;
 ghost use Rattle.tpm_commands.specs.declared.command_parameters.Params.TheVariants as params;
 ghost use Rattle.tpm_commands.specs.declared.response.ReplyBody.TheVariants as replies;
@@ -15,7 +15,7 @@ use crate::commands::Row;
 use crate::response::ReplyBody;
 use tpm_types::{Digest, OrDigests, Selections};
 use tpm_wire::response_code::of_parameter;
-use tpm_wire::{Buffer, Cursor, Refusal, Wire};
+use tpm_wire::{Cursor, Refusal, Room, Wire};
 
 // ---- TPM2_PolicyOR (23.6)
 
@@ -60,10 +60,12 @@ pub(crate) fn policy_or_len(digests: &OrDigests) -> usize
 
 #[tactic(auto, unfolding(crate::specs::Parameters::policy_or))]
 #[inline(always)]
-pub(crate) fn put_policy_or(digests: &OrDigests, out: &mut Buffer)
-    requires { length out.old.items + length (spelling policy_or (params.PolicyOr digests.now))
-        ≤ 4096 }
-    ensures { out.new.items ≡ out.old.items ++ spelling policy_or (params.PolicyOr digests.now) }
+pub(crate) fn put_policy_or<R: Room>(digests: &OrDigests, out: &mut R)
+    requires { length (R.written out.old)
+        + length (spelling policy_or (params.PolicyOr digests.now))
+        ≤ R.size }
+    ensures { R.written out.new
+        ≡ R.written out.old ++ spelling policy_or (params.PolicyOr digests.now) }
 {
     digests.put(out);
 }
@@ -110,12 +112,12 @@ pub(crate) fn policy_pcr_len(pcr_digest: &Digest, selections: &Selections) -> us
 
 #[tactic(auto, unfolding(crate::specs::Parameters::policy_pcr))]
 #[inline(always)]
-pub(crate) fn put_policy_pcr(pcr_digest: &Digest, selections: &Selections, out: &mut Buffer)
-    requires { length out.old.items
+pub(crate) fn put_policy_pcr<R: Room>(pcr_digest: &Digest, selections: &Selections, out: &mut R)
+    requires { length (R.written out.old)
         + length (spelling policy_pcr (params.PolicyPcr pcr_digest.now selections.now))
-        ≤ 4096 }
-    ensures { out.new.items
-        ≡ out.old.items ++ spelling policy_pcr (params.PolicyPcr pcr_digest.now selections.now) }
+        ≤ R.size }
+    ensures { R.written out.new
+        ≡ R.written out.old ++ spelling policy_pcr (params.PolicyPcr pcr_digest.now selections.now) }
 {
     pcr_digest.put(out);
     selections.put(out);
@@ -157,12 +159,12 @@ pub(crate) fn policy_command_code_len(code: u32) -> usize
 
 #[tactic(auto, unfolding(crate::specs::Parameters::policy_command_code))]
 #[inline(always)]
-pub(crate) fn put_policy_command_code(code: u32, out: &mut Buffer)
-    requires { length out.old.items
+pub(crate) fn put_policy_command_code<R: Room>(code: u32, out: &mut R)
+    requires { length (R.written out.old)
         + length (spelling policy_command_code (params.PolicyCommandCode code))
-        ≤ 4096 }
-    ensures { out.new.items
-        ≡ out.old.items ++ spelling policy_command_code (params.PolicyCommandCode code) }
+        ≤ R.size }
+    ensures { R.written out.new
+        ≡ R.written out.old ++ spelling policy_command_code (params.PolicyCommandCode code) }
 {
     code.put(out);
 }
@@ -202,7 +204,7 @@ pub(crate) fn read_policy_get_digest_reply(
 pub(crate) fn policy_get_digest_reply_len(digest: &Digest) -> usize
     ensures value { result
         ≡ length (spelling policy_get_digest_reply (replies.PolicyGetDigest digest.now)) }
-    ensures fits { result ≤ most_params }
+    ensures fits { result ≤ most_reply_params }
     ensures spelled { (left : ℕ)
         → Fits left policy_get_digest_reply (replies.PolicyGetDigest digest.now) }
 {
@@ -212,12 +214,12 @@ pub(crate) fn policy_get_digest_reply_len(digest: &Digest) -> usize
 
 #[tactic(auto, unfolding(crate::specs::Replies::policy_get_digest_reply))]
 #[inline(always)]
-pub(crate) fn put_policy_get_digest_reply(digest: &Digest, out: &mut Buffer)
-    requires { length out.old.items
+pub(crate) fn put_policy_get_digest_reply<R: Room>(digest: &Digest, out: &mut R)
+    requires { length (R.written out.old)
         + length (spelling policy_get_digest_reply (replies.PolicyGetDigest digest.now))
-        ≤ 4096 }
-    ensures { out.new.items
-        ≡ out.old.items ++ spelling policy_get_digest_reply (replies.PolicyGetDigest digest.now) }
+        ≤ R.size }
+    ensures { R.written out.new
+        ≡ R.written out.old ++ spelling policy_get_digest_reply (replies.PolicyGetDigest digest.now) }
 {
     digest.put(out);
 }

@@ -3,7 +3,7 @@
 ghost use Rattle.std.specs.Prelude.{◌≡◌, ◌≤◌, ◌+◌, ◌∷◌, ◌++◌, [], length, ℕ, Some, IfOk, OnOk};
 ghost use Rattle.tpm_wire.specs.Spelling.{spelling, Fits};
 ghost use Rattle.tpm_wire.specs.Buffers.{TakesNumbered};
-ghost use Rattle.tpm_commands.specs.Limits.{most_params};
+ghost use Rattle.tpm_commands.specs.Limits.{most_params, most_reply_params};
 ghost use Rattle.tpm_types.specs.declared.command_code.CommandCode.TheVariants as codes;
 ghost use Rattle.tpm_commands.specs.declared.command_parameters.Params.TheVariants as params;
 ghost use Rattle.tpm_commands.specs.declared.response.ReplyBody.TheVariants as replies;
@@ -16,7 +16,7 @@ use crate::commands::Row;
 use crate::response::{ReplyBody, StartReply};
 use tpm_types::{Alg, EncryptedSalt, Nonce, SessionHandle, SessionType, SymDef};
 use tpm_wire::response_code::{of_handle, of_parameter};
-use tpm_wire::{Buffer, Cursor, Refusal, Wire};
+use tpm_wire::{Cursor, Refusal, Room, Wire};
 
 // ---- TPM2_StartAuthSession (11.1)
 
@@ -83,15 +83,15 @@ pub(crate) fn start_auth_session_len(start: &StartAuth) -> usize
 
 #[tactic(auto, unfolding(crate::specs::Parameters::start_auth_session))]
 #[inline(always)]
-pub(crate) fn put_start_auth_session(start: &StartAuth, out: &mut Buffer)
-    requires { length out.old.items
+pub(crate) fn put_start_auth_session<R: Room>(start: &StartAuth, out: &mut R)
+    requires { length (R.written out.old)
         + length
         (spelling start_auth_session
         (params.StartAuthSession start.now.nonce_caller start.now.session_type
         start.now.symmetric start.now.auth_hash))
-        ≤ 4096 }
-    ensures { out.new.items
-        ≡ out.old.items
+        ≤ R.size }
+    ensures { R.written out.new
+        ≡ R.written out.old
         ++ spelling start_auth_session
         (params.StartAuthSession start.now.nonce_caller start.now.session_type
         start.now.symmetric start.now.auth_hash) }
@@ -143,7 +143,7 @@ pub(crate) fn start_auth_session_reply_len(reply: &StartReply) -> usize
         ≡ length
         (spelling (start_auth_session_reply (reply.now.session ∷ []))
         (replies.StartAuthSession reply.now)) }
-    ensures fits { result ≤ most_params }
+    ensures fits { result ≤ most_reply_params }
     ensures spelled { (left : ℕ)
         → Fits left (start_auth_session_reply (reply.now.session ∷ []))
         (replies.StartAuthSession reply.now) }
@@ -155,14 +155,14 @@ pub(crate) fn start_auth_session_reply_len(reply: &StartReply) -> usize
 
 #[tactic(auto, unfolding(crate::specs::Replies::start_auth_session_reply))]
 #[inline(always)]
-pub(crate) fn put_start_auth_session_reply(reply: &StartReply, out: &mut Buffer)
-    requires { length out.old.items
+pub(crate) fn put_start_auth_session_reply<R: Room>(reply: &StartReply, out: &mut R)
+    requires { length (R.written out.old)
         + length
         (spelling (start_auth_session_reply (reply.now.session ∷ []))
         (replies.StartAuthSession reply.now))
-        ≤ 4096 }
-    ensures { out.new.items
-        ≡ out.old.items
+        ≤ R.size }
+    ensures { R.written out.new
+        ≡ R.written out.old
         ++ spelling (start_auth_session_reply (reply.now.session ∷ []))
         (replies.StartAuthSession reply.now) }
 {

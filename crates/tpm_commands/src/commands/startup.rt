@@ -10,7 +10,7 @@ ghost use Rattle.tpm_commands.specs.Parameters.{startup};
 use crate::commands::Row;
 use tpm_types::StartupType;
 use tpm_wire::response_code::of_parameter;
-use tpm_wire::{Buffer, Cursor, Refusal, Wire};
+use tpm_wire::{Cursor, Refusal, Room, Wire};
 
 // ---- TPM2_Startup (9.3)
 
@@ -46,10 +46,11 @@ pub(crate) fn startup_len(startup_type: StartupType) -> usize
 
 #[tactic(auto, unfolding(crate::specs::Parameters::startup))]
 #[inline(always)]
-pub(crate) fn put_startup(startup_type: StartupType, out: &mut Buffer)
-    requires { length out.old.items + length (spelling startup (params.Startup startup_type))
-        ≤ 4096 }
-    ensures { out.new.items ≡ out.old.items ++ spelling startup (params.Startup startup_type) }
+pub(crate) fn put_startup<R: Room>(startup_type: StartupType, out: &mut R)
+    requires { length (R.written out.old) + length (spelling startup (params.Startup startup_type))
+        ≤ R.size }
+    ensures { R.written out.new
+        ≡ R.written out.old ++ spelling startup (params.Startup startup_type) }
 {
     startup_type.put(out);
 }

@@ -48,7 +48,7 @@ step_of body reply nonce = Accepted (with_auths body []) (record { body = reply;
 abbrev pub Steps : (old new : Device) → Step → Type 0
 Steps old new step = (o : Origin) (h : History) → Stands o h old → Stands o (step ∷ h) new
 
--- an action: the device before it and behind it, the nonce that is handed in, and the reply that is left
+-- an action: the device before it and after it, the nonce that is handed in, and the reply that is left
 pub record Acting : Type 0 where
   pub old : Device
   pub nonce : List ℕ

@@ -1,10 +1,10 @@
 -- Segments, as the code holds them.
 use Rattle.std.specs.Prelude.{◌<◌}
-use Rattle.tpm_pcap.specs.declared.segment.Found.{Found as RustFound}
+use Rattle.tpm_pcap.specs.declared.segment.Carried.{Carried as RustCarried}
 use Rattle.tpm_pcap.specs.declared.segment.Ends.{Ends as RustEnds}
 use Rattle.tpm_pcap.specs.declared.segment.Segment.{Segment as RustSegment}
-use Rattle.tpm_pcap.specs.declared.segment.Found.TheVariants as rust
-use Rattle.tpm_pcap.specs.Segments.{Segment, Found, Other, Lacking, Fragment, UnknownLink, OnPort, Ends}
+use Rattle.tpm_pcap.specs.declared.segment.Carried.TheVariants as rust
+use Rattle.tpm_pcap.specs.Segments.{Segment, Carried, Other, Lacking, Fragment, UnknownLink, OnPort, Ends}
 
 abbrev pub segment_as : RustSegment → Segment
 segment_as s = record {
@@ -18,18 +18,18 @@ segment_as s = record {
   payload = s.payload.now;
 }
 
-abbrev pub found_as : RustFound → Found
-found_as rust.Other = Other
-found_as rust.Lacking = Lacking
-found_as rust.Fragment = Fragment
-found_as rust.UnknownLink = UnknownLink
-found_as (rust.Segment s) = OnPort (segment_as s)
+abbrev pub carried_as : RustCarried → Carried
+carried_as rust.Other = Other
+carried_as rust.Lacking = Lacking
+carried_as rust.Fragment = Fragment
+carried_as rust.UnknownLink = UnknownLink
+carried_as (rust.Segment s) = OnPort (segment_as s)
 
 abbrev pub ends_as : RustEnds → Ends
 ends_as e = record { source = e.source.now; target = e.target.now }
 
 -- A packet of the internet has fewer than 2^16 bytes behind its header.
-abbrev pub IsSmall : Found → Type 0
+abbrev pub IsSmall : Carried → Type 0
 IsSmall Other = Unit {0}
 IsSmall Lacking = Unit {0}
 IsSmall Fragment = Unit {0}

@@ -6,7 +6,7 @@ use Rattle.tpm_device.specs.declared.device.Device.{Device}
 use Rattle.tpm_device.specs.Stands.{Stands}
 use Rattle.tpm_script.specs.declared.lines.ScriptLine.{ScriptLine as RustLine}
 use Rattle.tpm_script.specs.declared.script.Run.{Run}
-use Rattle.tpm_script.specs.Script.{ScriptLine, Blank, Power, Command, NotHexadecimal, Script, events_from, line_of}
+use Rattle.tpm_script.specs.Script.{ScriptLine, Blank, Power, Command, NotHexadecimal, Script, stimuli_from, line_of}
 use Rattle.tpm_script.specs.Script.{most_digits, refused_line, script_text}
 use Rattle.tpm_script.specs.declared.lines.ScriptLine.TheVariants as rust
 use Rattle.tpm_output.specs.LineSinks.{Limits, LineStep}
@@ -27,7 +27,7 @@ StandsAt o h d = Stands o h d
 -- The device went through the script, with this text.
 abbrev pub GoesThrough : Script → (old new : Device) → (text : List ℕ) → Type 0
 GoesThrough s old new text = (o : Origin) (h : History) → StandsAt o h old → record {
-  stands : StandsAt o (after o h s.events) new;
+  stands : StandsAt o (after o h s.stimuli) new;
   text : text ≡ script_text o h s;
 }
 
@@ -46,7 +46,7 @@ next_command k _ = k
 abbrev pub RunsTo : ScriptLine → LineStep Run → Option Run → Type 0
 RunsTo l step (Some new) = record {
   accepted : l ≢ NotHexadecimal;
-  performs : GoesThrough (record { events = events_from step.old.command (l ∷ []); refused = None })
+  performs : GoesThrough (record { stimuli = stimuli_from step.old.command (l ∷ []); refused = None })
       step.old.device new.device step.text;
   command : new.command ≡ next_command step.old.command l;
 }

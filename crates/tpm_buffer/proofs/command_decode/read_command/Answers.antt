@@ -34,16 +34,17 @@ returns-in_err-read-clause-reads c =
     let bad : read 0 (parameters a.header.code) h ≡ Err e = rw c.begin.ensures at c.in_err-read.ensures.reads in
     rw (p.1, p.2) (params_fault c.args.bytes.now (checked a) h e before bad)
 
-pub returns-then-left-gt0-clause-reads : goal.returns-then-left-gt0-clause-reads
-returns-then-left-gt0-clause-reads c =
+pub returns-in_err-end-clause-reads : goal.returns-in_err-end-clause-reads
+returns-in_err-end-clause-reads c =
     let h = c.read_before_params.new.cursor.here in
     let a : Cut = cut_of c.in_ok-header.header c.in_ok-header.handles.items c.read_before_params.new.auths.items h in
     let g = c.read.new.cursor.here in
+    let p = err_from_is_err_and c.from_residual-in_err-end.result c.from_residual-in_err-end.ensures.1 in
     let before : read 0 before_params (at_start c.args.bytes.now) ≡ Ok (checked a, h) =
     ap (λ (p : Place). read 0 before_params p.here) (sym c.new-cursor.ensures) ∙ c.in_ok-header.ensures.reads in
     let good : read 0 (parameters a.header.code) h ≡ Ok (params_of c.read.new.self, g) = rw c.begin.ensures at c.in_ok-read.ensures.reads in
-    let more : eqb (length g.rest) 0 ≡ false = ne_eqb (length g.rest) 0 (λ e. omega (arith, e)) in
-    rw c.at.ensures (left_over c.args.bytes.now (checked a) h g (params_of c.read.new.self) before good more)
+    let more : eqb (length g.rest) 0 ≡ false = ne_eqb (length g.rest) 0 (λ e. omega (arith, e, c.in_err-end.ensures.0)) in
+    rw (p.1, p.2, c.in_err-end.ensures.1) (left_over c.args.bytes.now (checked a) h g (params_of c.read.new.self) before good more)
 
 pub returns-clause-reads : goal.returns-clause-reads
 returns-clause-reads c =
@@ -54,7 +55,7 @@ returns-clause-reads c =
     let before : read 0 before_params (at_start c.args.bytes.now) ≡ Ok (checked a, h) =
     ap (λ (p : Place). read 0 before_params p.here) (sym c.new-cursor.ensures) ∙ c.in_ok-header.ensures.reads in
     let good : read 0 (parameters a.header.code) h ≡ Ok (p, g) = rw c.begin.ensures at c.in_ok-read.ensures.reads in
-    let none : eqb (length g.rest) 0 ≡ true = eq-eqb (length g.rest) 0 (omega arith) in
+    let none : eqb (length g.rest) 0 ≡ true = eq-eqb (length g.rest) 0 c.in_ok-end.ensures in
     let body = c.in_ok-read.ensures.body ∙ ap (λ (ns : List ℕ). body_from ns p) c.as_slice.ensures.value in
     rw body (command_is c.args.bytes.now (checked a) h g p before good none)
 
@@ -66,7 +67,7 @@ returns-clause-spelled c =
     let s = c.in_ok-header.ensures.spelled in
     let p = params_of c.read.new.self in
     let g = c.read.new.cursor.here in
-    let none : g.rest ≡ [] = nil_from_length g.rest (omega arith) in
+    let none : g.rest ≡ [] = nil_from_length g.rest c.in_ok-end.ensures in
     let code = c.in_ok-read.ensures.code ∙ c.begin.ensures in
     let params : h.rest ≡ spelling (parameters a.header.code) p =
     (rw c.begin.ensures at c.in_ok-read.ensures.spelled)

@@ -8,7 +8,7 @@ use Rattle.tpm_c.proofs.framer.push.Met.{met}
 use Rattle.tpm_c.specs.Framers.{framer_at, status_number}
 use Rattle.tpm_stream.specs.contracts.framer.Framer.{the_row}
 use Rattle.tpm_stream.specs.Frames.{Pushes}
-use Rattle.tpm_stream.specs.declared.framer.Status.{Status}
+use Rattle.tpm_stream.specs.declared.framer.FramerState.{FramerState}
 use Rattle.tpm_c.specs.contracts.framer.push as of
 use Rattle.tpm_c.specs.contracts.framer.tpm_framer_push as f
 use Rattle.tpm_c.proofs.framer.tpm_framer_push.Statement as stated
@@ -25,11 +25,12 @@ tpm_framer_push_spec 𝓤 𝓛 𝓜 𝓡 wired =
     -- &mut *(place as *mut Framer), and the status again
     sets ! (of_opd ! (get ! refl)) refl (tt, tt) $ sets ! (addr ! (through ! refl (stop !))) refl (tt, tt) $
     sets ! (addr ! (through ! refl (stop !))) refl (tt, tt) $
-    lent 𝓛 𝓜 𝓡 f.ended c sp ! the_row held b o w (λ r new us. (s : Status)
-    × Pushes (record { old = held; piece = piece; new = new; taken = r; status = s }) × (us.1.0 ≡ status_number s))
+    lent 𝓛 𝓜 𝓡 f.ended c sp ! the_row held b o w (λ r new us. (s : FramerState)
+    × Pushes (record { old = held; piece = piece; new = new; taken = r; state = s }) × (us.1.0 ≡ status_number s))
     (triple_of 𝓛 of.signature (of.spec 𝓛 𝓜.mem 𝓡.returns)) (met 𝓤 𝓛 𝓜 𝓡 (code.calls-tpm_c::framer::push 𝓡.env wired))
     (λ κ x vals. (((κ, w.0), (full_share, w.1), tt, (x, a), (mut_vals x, vals)), tt)) (λ κ δ. id⊢ 𝓤 _) (λ κ δ v. id⊢ 𝓤 _)
     (λ r new us e. is_one 𝓛 the_row b o (λ (z : (new : List ℕ)
-    × (s : Status) × Pushes (record { old = held; piece = piece; new = new; taken = r; status = s }) × (us.1.0 ≡ status_number s)). z.0) (new, e.0, e.1, e.2))
+    × (s : FramerState) × Pushes (record { old = held; piece = piece; new = new; taken = r; state = s }) × (us.1.0 ≡ status_number s)). z.0)
+    (new, e.0, e.1, e.2))
     (λ κ δ. and_then ! (get ! refl) (and_then ! (get ! refl) (and_then ! (get ! refl) (no_more !))))
     (λ v r is. lands_as ! refl refl ((uint_Lawful 𝓛 w64).typed r _ is).0 $ returns ! (look_at ! 0 refl) $ free_all ! refl $ done !)))

@@ -1,7 +1,7 @@
 use Rattle.std.proofs.Common.{[], sym, ◌++◌, ◌∷◌, ◌∙◌}
 use Rattle.tpm_model.specs.Answers.{answer}
 use Rattle.tpm_model.specs.Callers.{waiting}
-use Rattle.tpm_model.specs.Runs.Event.{Given}
+use Rattle.tpm_model.specs.Runs.Stimulus.{Given}
 use Rattle.tpm_model.specs.Runs.{after}
 use Rattle.tpm_model.proofs.Mixed.{own_reply_alone, one_reply_alone}
 use Rattle.tpm_caller.proofs.Kept.{one_opened}

@@ -6,4 +6,4 @@ use Rattle.tpm_device.proofs.response.put_bare_alone.Goals as goal
 
 pub returns : goal.returns
 unfolding response response_front response_tag response_code command_size without_sessions
-returns c = c.put.ensures ∙ ap (λ (l : List ℕ). l ++ 0x80 ∷ 0x01 ∷ 0 ∷ 0 ∷ 0 ∷ 10 ∷ 0 ∷ 0 ∷ 0 ∷ 0 ∷ []) (nil_from_length c.args.out.now.items c.requires)
+returns c = c.put_bytes.ensures ∙ ap (λ (l : List ℕ). l ++ 0x80 ∷ 0x01 ∷ 0 ∷ 0 ∷ 0 ∷ 10 ∷ 0 ∷ 0 ∷ 0 ∷ 0 ∷ []) (nil_from_length c.args.out.now.items c.requires)

@@ -11,5 +11,5 @@ use Rattle.tpm_device.proofs.response.put_bare_passed.Goals as goal
 pub returns : goal.returns
 unfolding response response_front response_tag response_code command_size with_sessions without_sessions parameter_size reply_sessions further_sessions
     auth_response sized_bytes session_attrs
-returns c = c.put.ensures ∙ ap (λ (l : List ℕ). l ++ 0x80 ∷ 0x02 ∷ 0 ∷ 0 ∷ 0 ∷ 19 ∷ 0 ∷ 0 ∷ 0 ∷ 0 ∷ 0 ∷ 0 ∷ 0 ∷ 0 ∷ 0 ∷ 0 ∷ 0x01 ∷ 0 ∷ 0 ∷ [])
+returns c = c.put_bytes.ensures ∙ ap (λ (l : List ℕ). l ++ 0x80 ∷ 0x02 ∷ 0 ∷ 0 ∷ 0 ∷ 19 ∷ 0 ∷ 0 ∷ 0 ∷ 0 ∷ 0 ∷ 0 ∷ 0 ∷ 0 ∷ 0 ∷ 0 ∷ 0x01 ∷ 0 ∷ 0 ∷ [])
     (nil_from_length c.args.out.now.items c.requires)

@@ -1,4 +1,4 @@
--- What is kept of a key makes its HMACs.
+-- What is precomputed of a key makes its HMACs.
 use Rattle.std.proofs.Common.{◌≡◌, ℕ, List, ◌++◌, refl, ◌∙◌}
 use Rattle.std.proofs.lemmas.List.{take-map}
 use Rattle.tpm_types.specs.declared.alg.Alg.TheVariants.{Sha1, Sha256}
