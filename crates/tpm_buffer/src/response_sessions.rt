@@ -37,7 +37,28 @@ impl<'a> Model for ReplyRef<'a> {
         × (length r.hmac.now ≤ digest_bytes) };
 }
 
+impl Default for ReplyRef<'_> {
+    fn default() -> Self {
+        ReplyRef {
+            nonce: &[],
+            attrs: SessionAttrs::default(),
+            hmac: &[],
+        }
+    }
+}
+
 impl<'a> ReplyRef<'a> {
+    // The same session.
+    pub(crate) fn again(&self) -> Self
+        ensures { result ≡ self.now }
+    {
+        ReplyRef {
+            nonce: self.nonce,
+            attrs: self.attrs,
+            hmac: self.hmac,
+        }
+    }
+
     /// The device's nonce, nonceTPM: at most `DIGEST_BYTES`.
     pub fn nonce(&self) -> &'a [u8]
         ensures value { result.now ≡ self.now.nonce }
