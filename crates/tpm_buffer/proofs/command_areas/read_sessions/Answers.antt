@@ -1,4 +1,4 @@
-use Rattle.std.proofs.Common.{◌≡◌, ◌≤◌, ◌+◌, length, refl, sym, ap, ◌∙◌}
+use Rattle.std.proofs.Common.{refl, sym, ap, ◌∙◌}
 use Rattle.tpm_wire.specs.Token.{Here}
 use Rattle.tpm_types.proofs.Short.{ok}
 use Rattle.tpm_buffer.specs.Commands.{authorization}
