@@ -120,11 +120,11 @@ fn take_sessions<'a>(cursor: &mut Cursor<'a>) -> Result<ArrayVec<AuthRef<'a>, 3>
     Ok(auths)
 }
 
-/// Reads authorizationSize (Part 1, "Command/Response Structure"). AUTHSIZE at its place where it is less than the 9
-/// bytes that a session has at least, or more than the bytes behind it; INSUFFICIENT where it is cut.
+// Reads authorizationSize (Part 1, "Command/Response Structure"). AUTHSIZE at its place where it is less than the 9
+// bytes that a session has at least, or more than the bytes behind it; INSUFFICIENT where it is cut.
 #[tactic(auto, unfolding(crate::specs::Commands::authorization_size))]
 #[inline(always)]
-pub fn take_authorization_size(cursor: &mut Cursor<'_>) -> Result<u32, Refusal>
+fn take_authorization_size(cursor: &mut Cursor<'_>) -> Result<u32, Refusal>
     ensures reads { Takes authorization_size cursor.old cursor.new result }
     ensures spelled { IfOk result
         (λ x. cursor.old.here.rest ≡ spelling authorization_size x ++ cursor.new.here.rest) }
@@ -150,10 +150,11 @@ fn leave_authorization<'a>(cursor: &mut Cursor<'a>, behind: Outer<'a>) -> Result
     }
 }
 
-/// The sessions of a command with this tag.
+/// Reads the sessions of a command with this tag, none for another than 0x8002, or answers the authorization area's
+/// first fault, as `Handled::areas` does (Part 1, "Command/Response Structure").
 #[tactic(auto, unfolding(crate::specs::Commands::authorization))]
 #[inline(never)]
-pub(crate) fn take_authorization<'a>(
+pub fn take_authorization<'a>(
     cursor: &mut Cursor<'a>,
     tag: u16,
 ) -> Result<ArrayVec<AuthRef<'a>, 3>, Refusal>

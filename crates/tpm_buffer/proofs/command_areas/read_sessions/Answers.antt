@@ -14,5 +14,6 @@ invariant_of-result c =
 pub returns : goal.returns
 returns c =
     let here = c.take_authorization.new.cursor.here in
-    let place = here_is here c.remaining.result.now c.at-params_at.result (sym (remaining_is _ here _ _ c.remaining.ensures.reads)) (sym c.at-params_at.ensures) in
+    let left = sym (remaining_is _ here _ _ c.remaining.ensures.reads) in
+    let place = here_is here c.remaining.result.now c.at-params_at.result left (sym c.at-params_at.ensures) in
     rw (← c.handled.view_is) (c.in_ok-auths.ensures.reads ∙ ap (λ (h : Here). ok (c.in_ok-auths.auths.items, h)) place, refl, refl)
