@@ -15,11 +15,11 @@ use crate::handle_names::handle_name;
 use crate::piece::{How, LINE_END, Piece, Shape, Value, in_line, says};
 use crate::teller::{Teller, tell_pieces};
 use std::marker::Model;
-use tpm_buffer::{Areas, ReplyAreas};
+use tpm_buffer::{Areas, AuthRef, ReplyAreas};
 use tpm_output::named::Named;
 use tpm_output::names;
 use tpm_output::text::Pushed;
-use tpm_types::{Auth, AuthReply};
+use tpm_types::AuthReply;
 
 // The bits of TPMA_SESSION (Part 2, 8.4) by their numbers.
 const ATTRIBUTES: [Named; 6] = names![
@@ -58,14 +58,14 @@ impl<'a> Session<'a> {
     ghost use Rattle.tpm_show.specs.Sessions.{of_command, of_reply};
 
     /// A session of a command.
-    pub(crate) fn of_command(auth: &'a Auth) -> Self
+    pub(crate) fn of_command(auth: &AuthRef<'a>) -> Self
         ensures { result ≡ of_command auth.now }
     {
         Session {
-            handle: Some(auth.session.number()),
-            nonce: auth.nonce.as_slice(),
-            attributes: auth.attrs.number(),
-            hmac: auth.hmac.as_slice(),
+            handle: Some(auth.session().number()),
+            nonce: auth.nonce(),
+            attributes: auth.attrs().number(),
+            hmac: auth.hmac(),
         }
     }
 
@@ -110,14 +110,7 @@ impl HasSessions for Areas<'_> {
         let Some(auth) = self.auth(index) else {
             return None;
         };
-        let handle = auth.session().number();
-        let attributes = auth.attrs().number();
-        Some(Session {
-            handle: Some(handle),
-            nonce: auth.nonce(),
-            attributes,
-            hmac: auth.hmac(),
-        })
+        Some(Session::of_command(&auth))
     }
 }
 
