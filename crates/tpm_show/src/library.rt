@@ -10,7 +10,7 @@ ghost use Rattle.tpm_show.specs.Library.{response_areas, response_areas_of, resp
 
 use crate::command_names::{Listed, command_of};
 use crate::frame_header::FrameHeader;
-use crate::sessions::{HasSessions, Session};
+use crate::sessions::{HasSessions, SessionParts};
 use arrayvec::ArrayVec;
 use std::marker::Model;
 use tpm_buffer::{AuthRef, NO_SESSIONS, SESSIONS, take_authorization, take_parameter_size};
@@ -80,11 +80,11 @@ impl HasSessions for CommandAreas<'_> {
         self.auths.len()
     }
 
-    fn session(&self, index: usize) -> Option<Session<'_>> {
+    fn session(&self, index: usize) -> Option<SessionParts<'_>> {
         let Some(auth) = self.auths.as_slice().get(index) else {
             return None;
         };
-        Some(Session::of_command(auth))
+        Some(SessionParts::of_command(auth))
     }
 }
 
@@ -179,11 +179,11 @@ impl HasSessions for ResponseAreas<'_> {
         self.auths.len()
     }
 
-    fn session(&self, index: usize) -> Option<Session<'_>> {
+    fn session(&self, index: usize) -> Option<SessionParts<'_>> {
         let Some(auth) = self.auths.as_slice().get(index) else {
             return None;
         };
-        Some(Session::of_reply(auth))
+        Some(SessionParts::of_reply(auth))
     }
 }
 
