@@ -15,7 +15,7 @@ use arrayvec::ArrayVec;
 use std::marker::Model;
 use tpm_buffer::{NO_SESSIONS, SESSIONS, take_authorization_size, take_parameter_size};
 use tpm_types::{Auth, AuthReply};
-use tpm_wire::response_code::{AUTHSIZE, SIZE};
+use tpm_wire::response_code::AUTHSIZE;
 use tpm_wire::{Cursor, Refusal, read_list, take_rest};
 
 /// The handles of a command or of a response.
@@ -140,12 +140,7 @@ fn read_command_areas(rest: &[u8], handles: u8, tag: u16) -> Result<CommandAreas
 {
     let mut cursor = Cursor::new(rest);
     let areas = take_command_areas(&mut cursor, handles, tag)?;
-    if cursor.left() > 0 {
-        return Err(Refusal {
-            code: SIZE,
-            at: cursor.at(),
-        });
-    }
+    cursor.end()?;
     Ok(areas)
 }
 
@@ -266,12 +261,7 @@ fn read_response_areas(rest: &[u8], handles: u8, tag: u16) -> Result<ResponseAre
 {
     let mut cursor = Cursor::new(rest);
     let areas = take_response_areas(&mut cursor, handles, tag)?;
-    if cursor.left() > 0 {
-        return Err(Refusal {
-            code: SIZE,
-            at: cursor.at(),
-        });
-    }
+    cursor.end()?;
     Ok(areas)
 }
 
