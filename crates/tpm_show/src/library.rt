@@ -15,7 +15,6 @@ use arrayvec::ArrayVec;
 use std::marker::Model;
 use tpm_buffer::{AuthRef, NO_SESSIONS, SESSIONS, take_authorization, take_parameter_size};
 use tpm_types::AuthReply;
-use tpm_wire::response_code::SIZE;
 use tpm_wire::{Cursor, Refusal, read_list, take_rest};
 
 /// The handles of a command or of a response.
@@ -114,12 +113,7 @@ fn read_command_areas(rest: &[u8], handles: u8, tag: u16) -> Result<CommandAreas
 {
     let mut cursor = Cursor::new(rest);
     let areas = take_command_areas(&mut cursor, handles, tag)?;
-    if cursor.left() > 0 {
-        return Err(Refusal {
-            code: SIZE,
-            at: cursor.at(),
-        });
-    }
+    cursor.end()?;
     Ok(areas)
 }
 
@@ -240,12 +234,7 @@ fn read_response_areas(rest: &[u8], handles: u8, tag: u16) -> Result<ResponseAre
 {
     let mut cursor = Cursor::new(rest);
     let areas = take_response_areas(&mut cursor, handles, tag)?;
-    if cursor.left() > 0 {
-        return Err(Refusal {
-            code: SIZE,
-            at: cursor.at(),
-        });
-    }
+    cursor.end()?;
     Ok(areas)
 }
 
