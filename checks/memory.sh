@@ -1,7 +1,7 @@
 #!/bin/sh
 # Each request of the program for memory, refused in turn: `out of memory` with status 3, or the answer as if none had
 # been refused (the program may ask again for less), and never another answer. And no run is out of memory where no
-# request is refused.
+# request is refused. Packets are told as they come, in the same memory however many there are.
 
 . "$(dirname "$0")/shared.sh"
 want_program
@@ -39,6 +39,27 @@ refuses() {
         pass "$name ($((request - 1)) requests, $wanting times out of memory)"
     fi
 }
+
+# 400,000 packets of 27 MB: a command, its reply, and so on.
+many_packets() {
+    python3 - <<'END'
+import sys
+sys.path.insert(0, "checks")
+from packets import DONE, STARTUP, back, savefile, to
+packets = (packet for n in range(200000) for packet in (to(1 + 12 * n, STARTUP), back(1 + 10 * n, DONE)))
+sys.stdout.buffer.writelines(savefile(101, packets))
+END
+}
+
+name="packets of 27 MB are told in 16 MB of memory"
+if ! command -v python3 >/dev/null 2>&1; then
+    skip "$name" "there is no python3"
+else
+    many_packets >"$room/many.pcap"
+    told=$(ulimit -v 16384 && "$program" show --pcap "$room/many.pcap" 2>"$room/err" | grep -c '^packet ')
+    if [ "$told" = 400000 ]; then pass "$name"; else fail "$name" "$told are told: $(cat "$room/err")"; fi
+    rm -f "$room/many.pcap"
+fi
 
 if [ -z "$compiler" ]; then
     skip "refused memory" "no C compiler was found for checks/refuse.c, which refuses it"

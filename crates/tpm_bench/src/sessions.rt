@@ -1,14 +1,12 @@
 //! Sessions.
 
 ghost use Rattle.std.specs.Prelude.{◌≡◌, ◌<◌, ◌≤◌, length, is_ok};
-ghost use Rattle.tpm_model.specs.Sessions.{loaded};
-ghost use Rattle.tpm_model.specs.Entities.Entity.{Register};
-ghost use Rattle.tpm_model.specs.Authorization.{authorize, first_loaded};
+ghost use Rattle.tpm_session.specs.Entities.{authorized};
 
-use tpm_buffer::{Areas, AuthRef, areas};
+use tpm_buffer::{AuthRef, areas};
 use tpm_commands::StartAuth;
 use tpm_session::{Claim, Entity, Sessions};
-use tpm_types::{Alg, BindHandle, Name, Nonce, SessionType, SymDef, name_of_handle};
+use tpm_types::{Alg, BindHandle, Nonce, SessionType, SymDef, name_of_handle};
 
 /// Starts an HMAC session of SHA-256 in slot 0, which is bound to none and whose nonceTPM is 32
 /// zeros, and has it authorize the command so many times, which is one on a register. It answers
@@ -21,17 +19,23 @@ pub extern "C" fn tpm_bench_authorize(bytes: &[u8], times: u32) -> u32
     let Ok(areas) = areas(bytes) else {
         return 0;
     };
-    let Some(auth) = areas.auth(0) else {
-        return 0;
-    };
     let [register, ..] = areas.handles() else {
         return 0;
     };
-    let auths = [auth];
+    if areas.auth_count() == 0 {
+        return 0;
+    }
     let names = [name_of_handle(*register)];
     let mut authorized = 0;
     for counter in 0..times {
-        if is_authorized(&sessions, &auths, &areas, &names, counter) {
+        let claim = Claim {
+            entity: Entity::Register,
+            command: areas.code(),
+            names: &names,
+            params: areas.params(),
+            update_counter: counter,
+        };
+        if is_authorized(&sessions, areas.auths(), &claim) {
             authorized += 1;
         }
     }
@@ -51,26 +55,12 @@ fn started() -> Sessions {
     sessions
 }
 
-// Whether a command of a register is authorized at this update counter. The counter is another one
-// each time, so that the compiler cannot take one answer for all.
+// Whether these sessions authorize the command. The update counter is another one each time, so that the compiler
+// cannot take one answer for all.
 #[inline(never)]
-fn is_authorized<'a>(
-    sessions: &Sessions,
-    auths: &[AuthRef<'_>],
-    areas: &Areas<'a>,
-    names: &'a [Name],
-    counter: u32,
-) -> bool
+fn is_authorized(sessions: &Sessions, auths: &[AuthRef<'_>], claim: &Claim<'_>) -> bool
     requires { 0 < length auths.now }
-    ensures { result ≡ is_ok (authorize (first_loaded (loaded sessions.now) auths.now)
-        Register areas.now.header.code names.now areas.now.params counter auths.now) }
+    ensures { result ≡ is_ok (authorized sessions.now claim.now auths.now) }
 {
-    let claim = Claim {
-        entity: Entity::Register,
-        command: areas.code(),
-        names,
-        params: areas.params(),
-        update_counter: counter,
-    };
-    sessions.authorize(auths, &claim).is_ok()
+    sessions.authorize(auths, claim).is_ok()
 }

@@ -2,7 +2,7 @@ pub mod Spelled
 pub mod Prefix
 pub mod Staged
 pub mod Places
-pub mod Sessions
+pub mod Fits
 pub mod Within
 pub mod ReadSessions
 pub mod Answered

@@ -1,9 +1,9 @@
 -- What is read of bytes is there again: under another number, and from its place alone.
 use Rattle.std.proofs.Common.{◌≡◌, ℕ, zero, suc, ◌+◌, ◌-◌, ◌≤◌, Bool, true, false, cond, eqb, List, [], ◌∷◌, ◌++◌}
-use Rattle.std.proofs.Common.{length, take, drop, map, Option, Some, None, Result, Ok, Err, refl, sym, subst, ap, ◌∙◌}
+use Rattle.std.proofs.Common.{length, take, drop, Option, Some, None, Result, Ok, Err, refl, sym, subst, ap, ◌∙◌}
 use Rattle.std.proofs.Common.{arith, length-drop}
 use Rattle.std.proofs.lemmas.Bool.{eqb-true}
-use Rattle.std.proofs.lemmas.List.{drop-drop, map-append}
+use Rattle.std.proofs.lemmas.List.{drop-drop}
 use Rattle.std.specs.Prelude.{◌&&◌}
 use Rattle.tpm_wire.specs.declared.refusal.Refusal.{Refusal}
 use Rattle.tpm_wire.specs.Token.{number_of, Here, past, at_start, or_fault, spelled_all}
@@ -16,7 +16,7 @@ use Rattle.tpm_wire.proofs.Buffers.{buffer_sound}
 use Rattle.tpm_wire.proofs.Whole.{reads_its_path}
 use Rattle.tpm_wire.proofs.Elsewhere.{read_later, later}
 use Rattle.tpm_types.proofs.Short.{ok}
-use Rattle.tpm_buffer.specs.ResponseAreas.{IsPlaceIn}
+use Rattle.tpm_buffer.specs.inner.ResponseAreas.{IsPlaceIn}
 
 token_mark : {A : Type 0} (o : Option ℕ) (p : Result A ℕ) (n m k : ℕ) (h : Here) (x : A × Here)
     → unless buffer o m h (found buffer p n m h) ≡ Ok x → unless buffer o k h (found buffer p n k h) ≡ Ok x
@@ -96,10 +96,6 @@ all_read l bytes x e =
     let whole = bind_ok (read 0 l (at_start bytes)) (finish buffer) done.0 done.1 in
     let last = finished whole.0 done.0 whole.2 in
     (whole.0.1, whole.1 ∙ ap (λ z. ok (z, whole.0.1)) (ap (λ z. z.0) last.1 ∙ ok_is done.0.0 x done.2), last.0)
-
--- one value more, of those at these positions
-pub one_more : {A : Type 0} (at : ℕ → A) (ns : List ℕ) (n : ℕ) (x : A) → at n ≡ x → map at (ns ++ n ∷ []) ≡ map at ns ++ x ∷ []
-one_more {A = A} at ns n x is = map-append at ns (n ∷ []) ∙ ap (λ (y : A). map at ns ++ y ∷ []) is
 
 -- ---- the places on the way through bytes
 

@@ -1,34 +1,13 @@
--- The sessions of a response, by their positions.
-use Rattle.std.proofs.Common.{◌≡◌, ℕ, ◌+◌, ◌*◌, ◌≤◌, ◌<◌, List, ◌∷◌, ◌++◌, length, take, drop, Ok, refl, sym, ap, ◌∙◌}
+-- The sessions of a response, and the place of its parameters.
+use Rattle.std.proofs.Common.{◌≡◌, ℕ, ◌+◌, ◌*◌, ◌≤◌, ◌<◌, List, ◌∷◌, ◌++◌, length, take, drop, refl}
 use Rattle.std.proofs.Common.{append_assoc, arith, length-take-le, length-drop}
 use Rattle.std.proofs.lemmas.Bool.{ne_eqb}
 use Rattle.std.proofs.lemmas.List.{append-nil}
-use Rattle.tpm_wire.specs.Token.{Here, at_start}
-use Rattle.tpm_wire.specs.Reading.{read}
 use Rattle.tpm_wire.specs.Spelling.{spelling, joined_all}
 use Rattle.tpm_types.specs.declared.tpms.AuthReply.{AuthReply}
 use Rattle.tpm_types.specs.Tpms.{auth_response}
-use Rattle.tpm_types.proofs.Short.{ok}
 use Rattle.tpm_buffer.specs.Responses.{further_sessions, reply_sessions}
-use Rattle.tpm_buffer.specs.ResponseAreas.{IsPlaceIn, IsSession, session_of, session_at, place_behind}
-use Rattle.tpm_buffer.proofs.Places.{alone}
-
--- the session that was read is that at its position
-pub is_there : (bytes : List ℕ) (m : ℕ) (h g : Here) (a : AuthReply) → IsPlaceIn bytes h → read m auth_response h ≡ Ok (a, g) → session_at bytes h.at ≡ a
-unfolding session_at
-is_there bytes m h g a s e = ap session_of (ap (λ (r : List ℕ). read 0 auth_response (at_start r)) (sym s.rest) ∙ (alone m 0 auth_response h g a e).1)
-
-pub begins_there : (bytes : List ℕ) (m : ℕ) (h g : Here) (a : AuthReply) → IsPlaceIn bytes h → read m auth_response h ≡ Ok (a, g) → IsSession bytes h.at
-begins_there bytes m h g a s e =
-    let there = alone m 0 auth_response h g a e in
-    record {
-      within = omega (arith, s.whole);
-      behind = there.0;
-      reads =
-          ap (λ (r : List ℕ). read 0 auth_response (at_start r)) (sym s.rest)
-          ∙ there.1
-          ∙ ap (λ (x : AuthReply). ok (x, there.0)) (sym (is_there bytes m h g a s e));
-    }
+use Rattle.tpm_buffer.specs.ResponseAreas.{place_behind}
 
 -- the first session and the others are all of them
 pub text_of : (a : AuthReply) (others : List AuthReply) (all rest after : List ℕ)

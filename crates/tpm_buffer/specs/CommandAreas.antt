@@ -1,14 +1,12 @@
 -- What contracts see of a command that is read in steps.
-use Rattle.std.specs.Prelude.{◌≡◌, ◌≢◌, ℕ, ◌+◌, ◌<◌, ◌≤◌, true, List, [], ◌++◌, length, drop, map, Result, Ok, Err}
+use Rattle.std.specs.Prelude.{◌≡◌, ◌≢◌, ℕ, ◌+◌, ◌<◌, true, List, ◌++◌, length, Result, Ok, Err}
 use Rattle.tpm_wire.specs.declared.refusal.Refusal.{Refusal}
 use Rattle.tpm_wire.specs.Spelling.{spelling}
-use Rattle.tpm_wire.specs.Token.{Here, at_start}
+use Rattle.tpm_wire.specs.Token.{Here}
 use Rattle.tpm_wire.specs.Layout.{cut}
 use Rattle.tpm_wire.specs.Reading.{read}
 use Rattle.tpm_wire.specs.Path.{Spells, Begins, FaultFrom}
 use Rattle.tpm_types.specs.declared.tpms.Auth.{Auth}
-use Rattle.tpm_types.specs.Handles.{rs_pw}
-use Rattle.tpm_types.specs.Tpms.{auth_command}
 use Rattle.tpm_commands.specs.declared.command.Header.{Header}
 use Rattle.tpm_commands.specs.Handles.{handles, handle_kinds, AreAdmitted}
 use Rattle.tpm_buffer.specs.Commands.{is_tag, header, authorization, Checked, before_params}
@@ -73,25 +71,6 @@ IsAreas x (Err e) = read 0 (authorization x.header.tag) x.here ≡ Err e
 abbrev pub HasAreas : HandlesCut → Result Cut Refusal → Type 0
 HasAreas x (Ok y) = Begins 0 (authorization x.header.tag) y.auths x.here (params_here y)
 HasAreas x (Err e) = FaultFrom 0 (authorization x.header.tag) x.here e
-
--- ---- sessions by their positions
-
-abbrev pub session_of : Result (Auth × Here) Refusal → Auth
-session_of (Ok x) = x.0
-session_of (Err e) = record { session = rs_pw; nonce = []; attrs = 0; hmac = [] }
-
--- the session that begins at this position, where one does
-unfoldable pub session_at : List ℕ → ℕ → Auth
-session_at bytes n = session_of (read 0 auth_command (at_start (drop n bytes)))
-
--- A session begins there.
-pub record IsSession (bytes : List ℕ) (n : ℕ) : Type 0 where
-  pub within : n ≤ length bytes
-  pub behind : Here
-  pub reads : read 0 auth_command (at_start (drop n bytes)) ≡ Ok (session_at bytes n, behind)
-
-abbrev pub sessions_at : List ℕ → List ℕ → List Auth
-sessions_at bytes ns = map (session_at bytes) ns
 
 -- ---- bytes that are spelled by what was read of them
 

@@ -1,12 +1,7 @@
 -- What contracts see of a response whose parameters are not judged.
-use Rattle.std.specs.Prelude.{◌≡◌, ℕ, ◌+◌, ◌*◌, ◌≤◌, List, [], length, take, drop, map, Option, slice_get, ◌==◌}
-use Rattle.std.specs.Prelude.{if◌then◌else◌, Result, Ok, Err}
-use Rattle.tpm_wire.specs.declared.refusal.Refusal.{Refusal}
-use Rattle.tpm_wire.specs.Token.{Here, at_start}
-use Rattle.tpm_wire.specs.Reading.{read}
+use Rattle.std.specs.Prelude.{◌≡◌, ℕ, ◌+◌, ◌*◌, List, [], length, take, drop, Option, slice_get, ◌==◌, if◌then◌else◌}
 use Rattle.tpm_wire.specs.Path.{Spells}
 use Rattle.tpm_types.specs.declared.tpms.AuthReply.{AuthReply}
-use Rattle.tpm_types.specs.Tpms.{auth_response}
 use Rattle.tpm_commands.specs.declared.response.ReplyBody.{ReplyBody}
 use Rattle.tpm_commands.specs.declared.response.Response.{Response}
 use Rattle.tpm_commands.specs.Replies.{reply_handles_of, parameters_of_reply}
@@ -27,30 +22,6 @@ place_of_params c = place_behind c.handles c.auths
 -- The parameters are those bytes of the response that begin at their place.
 abbrev pub HasItsParams : List ℕ → ReplyCut → Type 0
 HasItsParams bytes c = c.params ≡ take (length c.params) (drop (place_of_params c) bytes)
-
--- ---- sessions by their positions
-
--- a place in these bytes, on the way through them
-pub record IsPlaceIn (bytes : List ℕ) (h : Here) : Type 0 where
-  pub rest : h.rest ≡ drop h.at bytes
-  pub whole : h.at + length h.rest ≡ length bytes
-
-abbrev pub session_of : Result (AuthReply × Here) Refusal → AuthReply
-session_of (Ok x) = x.0
-session_of (Err e) = record { nonce = []; attrs = 0; hmac = [] }
-
--- the session that begins at this position, where one does
-unfoldable pub session_at : List ℕ → ℕ → AuthReply
-session_at bytes n = session_of (read 0 auth_response (at_start (drop n bytes)))
-
--- A session begins there.
-pub record IsSession (bytes : List ℕ) (n : ℕ) : Type 0 where
-  pub within : n ≤ length bytes
-  pub behind : Here
-  pub reads : read 0 auth_response (at_start (drop n bytes)) ≡ Ok (session_at bytes n, behind)
-
-abbrev pub sessions_at : List ℕ → List ℕ → List AuthReply
-sessions_at bytes ns = map (session_at bytes) ns
 
 -- ---- a response and its cut
 

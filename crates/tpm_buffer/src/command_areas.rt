@@ -7,13 +7,13 @@ ghost use Rattle.tpm_wire.specs.Reading.{read, Gives};
 ghost use Rattle.tpm_wire.specs.Buffers.{TakesNumbered};
 ghost use Rattle.tpm_wire.specs.Path.{Decodes};
 ghost use Rattle.tpm_buffer.specs.Commands.{header as header_layout, before_params};
-ghost use Rattle.tpm_buffer.specs.CommandAreas.{head_and_rest, IsHandled, HasHandles, checked, params_here};
+ghost use Rattle.tpm_buffer.specs.CommandAreas.{head_and_rest, IsHandled, HasHandles, checked};
 ghost use Rattle.tpm_buffer.specs.inner.CommandAreas.{areas_view};
 ghost use Rattle.tpm_buffer.specs.CommandAreas.{IsAreas, HasAreas, IsSpelledBy};
 ghost use Rattle.tpm_buffer.specs.inner.CommandAreas.{cut_of};
 
 use crate::command_header::{long_fault, take_header};
-use crate::command_sessions::{AuthRef, read_authorization, session_at, take_authorization};
+use crate::command_sessions::{AuthRef, read_authorization, take_authorization};
 use arrayvec::ArrayVec;
 use std::marker::Model;
 use tpm_commands::{Header, take_handles};
@@ -23,35 +23,31 @@ use tpm_wire::{Cursor, Refusal};
 /// A command whose header was read.
 #[derive(Drop)]
 pub struct Headed<'a> {
-    bytes: &'a [u8],
     header: Header,
     cursor: Cursor<'a>,
 }
 
 impl<'a> Model for Headed<'a> {
-    ghost use Rattle.std.specs.Prelude.{◌≤◌, length};
-    ghost use Rattle.tpm_buffer.specs.ResponseAreas.{IsPlaceIn};
+    ghost use Rattle.std.specs.Prelude.{◌≤◌, ◌+◌, length};
     ghost use Rattle.tpm_buffer.specs.CommandAreas.{HeaderCut};
 
     ghost Value = { HeaderCut };
 
     ghost view = { λ h. record { header = h.header; here = h.cursor.here } };
 
-    ghost invariant = { λ h. (length h.bytes.now ≤ 4096) × IsPlaceIn h.bytes.now h.cursor.here };
+    ghost invariant = { λ h. h.cursor.here.at + length h.cursor.here.rest ≤ 4096 };
 }
 
 /// A command whose header and handles were read.
 #[derive(Drop)]
 pub struct Handled<'a> {
-    bytes: &'a [u8],
     header: Header,
     handles: ArrayVec<u32, 2>,
     cursor: Cursor<'a>,
 }
 
 impl<'a> Model for Handled<'a> {
-    ghost use Rattle.std.specs.Prelude.{◌≤◌, length};
-    ghost use Rattle.tpm_buffer.specs.ResponseAreas.{IsPlaceIn};
+    ghost use Rattle.std.specs.Prelude.{◌≤◌, ◌+◌, length};
     ghost use Rattle.tpm_buffer.specs.CommandAreas.{HandlesCut};
 
     ghost Value = { HandlesCut };
@@ -62,37 +58,34 @@ impl<'a> Model for Handled<'a> {
       here = h.cursor.here;
     } };
 
-    ghost invariant = { λ h. (length h.bytes.now ≤ 4096) × IsPlaceIn h.bytes.now h.cursor.here };
+    ghost invariant = { λ h. h.cursor.here.at + length h.cursor.here.rest ≤ 4096 };
 }
 
 /// A command whose header, handles and sessions were read, with its parameters as they came.
 #[derive(Drop)]
 pub struct Areas<'a> {
-    bytes: &'a [u8],
     header: Header,
     handles: ArrayVec<u32, 2>,
-    sessions: ArrayVec<u32, 3>,
+    auths: ArrayVec<AuthRef<'a>, 3>,
+    params: &'a [u8],
     params_at: u32,
 }
 
 impl<'a> Model for Areas<'a> {
-    ghost use Rattle.std.specs.Prelude.{◌≤◌, length, drop};
-    ghost use Rattle.std.specs.List.{All};
-    ghost use Rattle.tpm_buffer.specs.CommandAreas.{Cut, IsSession, sessions_at};
+    ghost use Rattle.std.specs.Prelude.{◌≤◌, ◌+◌, length};
+    ghost use Rattle.tpm_buffer.specs.CommandAreas.{Cut};
 
     ghost Value = { Cut };
 
     ghost view = { λ a. record {
       header = a.header;
       handles = a.handles.items;
-      auths = sessions_at a.bytes.now a.sessions.items;
-      params = drop a.params_at a.bytes.now;
+      auths = a.auths.items;
+      params = a.params.now;
       params_at = a.params_at;
     } };
 
-    ghost invariant = { λ a. (length a.bytes.now ≤ 4096)
-        × (a.params_at ≤ length a.bytes.now)
-        × All (IsSession a.bytes.now) a.sessions.items };
+    ghost invariant = { λ a. a.params_at + length a.params.now ≤ 4096 };
 }
 
 impl<'a> Headed<'a> {
@@ -122,12 +115,10 @@ impl<'a> Headed<'a> {
 fn read_handles(headed: Headed<'_>) -> Result<Handled<'_>, Refusal>
     ensures { IsHandled headed.entry result }
 {
-    let bytes = headed.bytes;
     let header = headed.header;
     let mut cursor = headed.cursor;
     let handles = take_handles(&mut cursor, header.code)?;
     Ok(Handled {
-        bytes,
         header,
         handles,
         cursor,
@@ -157,17 +148,17 @@ impl<'a> Handled<'a> {
 fn read_sessions(handled: Handled<'_>) -> Result<Areas<'_>, Refusal>
     ensures { IsAreas handled.entry result }
 {
-    let bytes = handled.bytes;
     let header = handled.header;
     let handles = handled.handles;
     let mut cursor = handled.cursor;
-    let sessions = take_authorization(&mut cursor, bytes, header.tag)?;
+    let auths = take_authorization(&mut cursor, header.tag)?;
+    let params_at = cursor.at();
     Ok(Areas {
-        bytes,
         header,
         handles,
-        sessions,
-        params_at: cursor.at(),
+        auths,
+        params: cursor.remaining(),
+        params_at,
     })
 }
 
@@ -193,19 +184,26 @@ impl<'a> Areas<'a> {
         self.handles.as_slice()
     }
 
+    /// The sessions, 0 to 3, which lend their nonces and their HMACs from the input.
+    pub fn auths(&self) -> &[AuthRef<'a>]
+        ensures { result.now ≡ self.now.auths }
+    {
+        self.auths.as_slice()
+    }
+
     /// How many sessions there are: 0 to 3.
     pub fn auth_count(&self) -> usize
         ensures value { result ≡ length self.now.auths }
         ensures few { result ≤ 3 }
     {
-        self.sessions.len()
+        self.auths.len()
     }
 
     /// The session of this index, counted from 0, where there is one. It lends its nonce and its HMAC from the input.
     pub fn auth(&self, index: usize) -> Option<AuthRef<'a>>
         ensures { result ≡ slice_get self.now.auths index }
     {
-        Some(session_at(self.bytes, *self.sessions.as_slice().get(index)?))
+        Some(self.auths.as_slice().get(index)?.again())
     }
 
     /// The parameters as they came, a part of the input: they are not judged yet.
@@ -213,7 +211,7 @@ impl<'a> Areas<'a> {
         ensures value { result.now ≡ self.now.params }
         ensures short { length result.now ≤ 4096 }
     {
-        &self.bytes[self.params_at as usize..]
+        self.params
     }
 
     /// How many bytes of the input are before the parameters.
@@ -231,11 +229,7 @@ fn short_header(bytes: &[u8]) -> Result<Headed<'_>, Refusal>
 {
     let mut cursor = Cursor::new(bytes);
     let header = take_header(&mut cursor)?;
-    Ok(Headed {
-        bytes,
-        header,
-        cursor,
-    })
+    Ok(Headed { header, cursor })
 }
 
 fn any_header(bytes: &[u8]) -> Result<Headed<'_>, Refusal>
@@ -277,33 +271,25 @@ pub(crate) fn read_before_params(
     Ok((header, handles))
 }
 
-/// All that stands before the parameters of the command, which begin where the cursor is then.
+// All that stands before the parameters of the command, and the parameters as they came.
 #[tactic(auto, unfolding(crate::specs::Commands::before_params))]
-fn take_areas<'a>(cursor: &mut Cursor<'a>, bytes: &'a [u8]) -> Result<Areas<'a>, Refusal>
-    requires start { cursor.old ≡ record { here = at_start bytes.now; number = 0 } }
-    requires short { length bytes.now ≤ 4096 }
-    ensures reads { TakesNumbered checked before_params cursor.old cursor.new result }
-    ensures place { IfOk result (λ c. cursor.new.here ≡ params_here c) }
-    ensures spelled { IfOk result (IsSpelledBy bytes.now) }
-{
-    let header = take_header(cursor)?;
-    let handles = take_handles(cursor, header.code)?;
-    let sessions = take_authorization(cursor, bytes, header.tag)?;
-    Ok(Areas {
-        bytes,
-        header,
-        handles,
-        sessions,
-        params_at: cursor.at(),
-    })
-}
-
 fn short_areas(bytes: &[u8]) -> Result<Areas<'_>, Refusal>
     requires { length bytes.now ≤ 4096 }
     ensures reads { Gives areas_view (read 0 before_params (at_start bytes.now)) result }
     ensures spelled { IfOk result (IsSpelledBy bytes.now) }
 {
-    take_areas(&mut Cursor::new(bytes), bytes)
+    let mut cursor = Cursor::new(bytes);
+    let header = take_header(&mut cursor)?;
+    let handles = take_handles(&mut cursor, header.code)?;
+    let auths = take_authorization(&mut cursor, header.tag)?;
+    let params_at = cursor.at();
+    Ok(Areas {
+        header,
+        handles,
+        auths,
+        params: cursor.remaining(),
+        params_at,
+    })
 }
 
 /// All that stands before the parameters of the command in the bytes, however many they are.

@@ -1,17 +1,12 @@
-//! A command's authorization area (Part 1, "Command/Response Structure"): its
-//! sessions, by their positions in the command.
+//! A command's authorization area (Part 1, "Command/Response Structure"): its sessions.
 
-ghost use Rattle.std.specs.Prelude.{◌≡◌, ◌≢◌, ◌<◌, ◌≤◌, ◌^◌, [], ◌∷◌, ◌++◌, IfOk, OnOk, length};
-ghost use Rattle.std.specs.List.{All};
+ghost use Rattle.std.specs.Prelude.{◌≡◌, ◌≢◌, ◌<◌, ◌≤◌, [], ◌∷◌, ◌++◌, IfOk, OnOk, length};
 ghost use Rattle.tpm_types.specs.declared.tpms.Auth.{Auth as AuthOf};
 ghost use Rattle.tpm_types.specs.Limits.{digest_bytes};
 ghost use Rattle.tpm_types.specs.Tpms.{auth_command};
 ghost use Rattle.tpm_wire.specs.Spelling.{spelling};
 ghost use Rattle.tpm_wire.specs.Buffers.{Takes, TakesNumbered};
 ghost use Rattle.tpm_buffer.specs.Commands.{sessions, authorization_size, authorization};
-ghost use Rattle.tpm_buffer.specs.ResponseAreas.{IsPlaceIn};
-ghost use Rattle.tpm_buffer.specs.CommandAreas.{IsSession, session_at as the_session_at, sessions_at};
-ghost use Rattle.tpm_buffer.specs.inner.CommandAreas.{LiesIn};
 ghost use Rattle.tpm_buffer.specs.inner.CommandAreas.{LeavesAuthorization};
 
 use crate::command_header::SESSIONS;
@@ -43,7 +38,26 @@ impl<'a> Model for AuthRef<'a> {
     } };
 }
 
+impl Default for AuthRef<'_> {
+    fn default() -> Self {
+        AuthRef {
+            session: AuthSession::default(),
+            shared: ReplyRef::default(),
+        }
+    }
+}
+
 impl<'a> AuthRef<'a> {
+    // The same session.
+    pub(crate) fn again(&self) -> Self
+        ensures { result ≡ self.now }
+    {
+        AuthRef {
+            session: self.session,
+            shared: self.shared.again(),
+        }
+    }
+
     /// The session, or the password.
     pub fn session(&self) -> AuthSession
         ensures { result ≡ self.now.session }
@@ -88,45 +102,29 @@ fn take_session<'a>(cursor: &mut Cursor<'a>) -> Result<AuthRef<'a>, Refusal>
     Ok(AuthRef { session, shared })
 }
 
-/// The session at this position of the command, where one was read.
-pub(crate) fn session_at<'a>(bytes: &'a [u8], at: u32) -> AuthRef<'a>
-    requires short { length bytes.now < 2 ^ 32 }
-    requires session { IsSession bytes.now at }
-    ensures { result ≡ the_session_at bytes.now at }
-{
-    match take_session(&mut Cursor::new(&bytes[at as usize..])) {
-        Ok(session) => session,
-        Err(_) => unreachable!(),
-    }
-}
-
-// The positions of the sessions to the end of the area: at most three.
+// The sessions to the end of the area: at most three.
 #[tactic(auto, unfolding(crate::specs::Commands::sessions))]
-fn take_sessions(cursor: &mut Cursor<'_>, bytes: &[u8]) -> Result<ArrayVec<u32, 3>, Refusal>
-    requires { LiesIn bytes.now cursor.old.here }
-    ensures reads { TakesNumbered (λ v. sessions_at bytes.now v.items) sessions
-        cursor.old cursor.new result }
+fn take_sessions<'a>(cursor: &mut Cursor<'a>) -> Result<ArrayVec<AuthRef<'a>, 3>, Refusal>
+    ensures reads { TakesNumbered (λ v. v.items) sessions cursor.old cursor.new result }
     ensures spelled { IfOk result
-        (λ v. cursor.old.here.rest
-        ≡ spelling sessions (sessions_at bytes.now v.items) ++ cursor.new.here.rest) }
-    ensures sessions { IfOk result (λ v. All (IsSession bytes.now) v.items) }
+        (λ v. cursor.old.here.rest ≡ spelling sessions v.items ++ cursor.new.here.rest) }
     ensures some { IfOk result
         (λ v. length cursor.new.here.rest < length cursor.old.here.rest → 0 < length v.items) }
 {
-    let mut positions = ArrayVec::new();
-    while cursor.left() > 0 && positions.len() < 3 {
-        cursor.number(of_session(1 + positions.len() as u32));
-        positions.push(cursor.at());
-        take_session(cursor)?;
+    let mut auths = ArrayVec::new();
+    while cursor.left() > 0 && auths.len() < 3 {
+        cursor.number(of_session(1 + auths.len() as u32));
+        let session = take_session(cursor)?;
+        auths.push(session);
     }
-    Ok(positions)
+    Ok(auths)
 }
 
-/// Reads authorizationSize (Part 1, "Command/Response Structure"). AUTHSIZE at its place where it is less than the 9
-/// bytes that a session has at least, or more than the bytes behind it; INSUFFICIENT where it is cut.
+// Reads authorizationSize (Part 1, "Command/Response Structure"). AUTHSIZE at its place where it is less than the 9
+// bytes that a session has at least, or more than the bytes behind it; INSUFFICIENT where it is cut.
 #[tactic(auto, unfolding(crate::specs::Commands::authorization_size))]
 #[inline(always)]
-pub fn take_authorization_size(cursor: &mut Cursor<'_>) -> Result<u32, Refusal>
+fn take_authorization_size(cursor: &mut Cursor<'_>) -> Result<u32, Refusal>
     ensures reads { Takes authorization_size cursor.old cursor.new result }
     ensures spelled { IfOk result
         (λ x. cursor.old.here.rest ≡ spelling authorization_size x ++ cursor.new.here.rest) }
@@ -152,21 +150,17 @@ fn leave_authorization<'a>(cursor: &mut Cursor<'a>, behind: Outer<'a>) -> Result
     }
 }
 
-/// The positions of the sessions of a command with this tag.
+/// Reads the sessions of a command with this tag, none for another than 0x8002, or answers the authorization area's
+/// first fault, as `Handled::areas` does (Part 1, "Command/Response Structure").
 #[tactic(auto, unfolding(crate::specs::Commands::authorization))]
 #[inline(never)]
-pub(crate) fn take_authorization(
-    cursor: &mut Cursor<'_>,
-    bytes: &[u8],
+pub fn take_authorization<'a>(
+    cursor: &mut Cursor<'a>,
     tag: u16,
-) -> Result<ArrayVec<u32, 3>, Refusal>
-    requires { IsPlaceIn bytes.now cursor.old.here }
-    ensures reads { TakesNumbered (λ v. sessions_at bytes.now v.items) (authorization tag)
-        cursor.old cursor.new result }
+) -> Result<ArrayVec<AuthRef<'a>, 3>, Refusal>
+    ensures reads { TakesNumbered (λ v. v.items) (authorization tag) cursor.old cursor.new result }
     ensures spelled { IfOk result
-        (λ v. cursor.old.here.rest
-        ≡ spelling (authorization tag) (sessions_at bytes.now v.items) ++ cursor.new.here.rest) }
-    ensures sessions { IfOk result (λ v. All (IsSession bytes.now) v.items) }
+        (λ v. cursor.old.here.rest ≡ spelling (authorization tag) v.items ++ cursor.new.here.rest) }
     ensures none { IfOk result (λ v. tag ≢ 0x8002 → length v.items ≡ 0) }
     ensures some { IfOk result (λ v. tag ≡ 0x8002 → 0 < length v.items) }
 {
@@ -175,10 +169,10 @@ pub(crate) fn take_authorization(
     }
     cursor.number(0);
     let size = take_authorization_size(cursor)? as usize;
-    let outer = cursor.enter(size)?;
-    let positions = take_sessions(cursor, bytes)?;
-    leave_authorization(cursor, outer)?;
-    Ok(positions)
+    let behind = cursor.enter(size)?;
+    let auths = take_sessions(cursor)?;
+    leave_authorization(cursor, behind)?;
+    Ok(auths)
 }
 
 // Adds a session that another one is read in the place of. It is out of line, where it is made in its

@@ -19,7 +19,7 @@ pub use command_decode::{areas, decode_command, one_spelling};
 pub use command_encode::{encode_command, put_command};
 pub use command_header::{NO_SESSIONS, SESSIONS, tag_for};
 pub use command_join::{UnjoinedCommand, join_command};
-pub use command_sessions::{AuthRef, take_authorization_size};
+pub use command_sessions::{AuthRef, take_authorization};
 pub use laws::{
     areas_of_a_response, command_or_fault, fault_before_params, no_prefix, no_response_prefix,
     parameters_in_command, response_or_fault,

@@ -8,12 +8,13 @@ ghost use Rattle.tpm_wire.specs.Buffers.{TakesNumbered};
 ghost use Rattle.tpm_wire.specs.Path.{Spells, Fault};
 ghost use Rattle.tpm_buffer.specs.Responses.{ReplyCut, raw_with_sessions, raw_without_sessions, cut_behind_code};
 ghost use Rattle.tpm_buffer.specs.Responses.{reply_cut};
-ghost use Rattle.tpm_buffer.specs.ResponseAreas.{IsPlaceIn, handle_of, place_of_params, HasItsParams};
+ghost use Rattle.tpm_buffer.specs.ResponseAreas.{handle_of, place_of_params, HasItsParams};
+ghost use Rattle.tpm_buffer.specs.inner.ResponseAreas.{IsPlaceIn};
 ghost use Rattle.tpm_commands.specs.Replies.{handle_list};
 
 use crate::command_header::SESSIONS;
 use crate::response_header::{long_fault, take_code, take_front};
-use crate::response_sessions::{ReplyRef, session_at, take_parameter_size, take_sessions};
+use crate::response_sessions::{ReplyRef, take_parameter_size, take_sessions};
 use arrayvec::ArrayVec;
 use std::marker::Model;
 use tpm_commands::take_reply_handle;
@@ -30,14 +31,13 @@ pub struct ReplyAreas<'a> {
     handle: Option<SessionHandle>,
     params_at: u32,
     params_size: usize,
-    sessions: ArrayVec<u32, 3>,
+    auths: ArrayVec<ReplyRef<'a>, 3>,
 }
 
 impl<'a> Model for ReplyAreas<'a> {
     ghost use Rattle.std.specs.Prelude.{◌≡◌, ◌≤◌, ◌+◌, length, take, drop};
-    ghost use Rattle.std.specs.List.{All};
     ghost use Rattle.tpm_buffer.specs.Responses.{ReplyCut};
-    ghost use Rattle.tpm_buffer.specs.ResponseAreas.{IsSession, sessions_at, place_behind};
+    ghost use Rattle.tpm_buffer.specs.ResponseAreas.{place_behind};
     ghost use Rattle.tpm_commands.specs.Replies.{handle_list};
 
     ghost Value = { ReplyCut };
@@ -46,14 +46,12 @@ impl<'a> Model for ReplyAreas<'a> {
       code = a.code;
       handles = handle_list a.handle;
       params = take a.params_size (drop a.params_at a.bytes.now);
-      auths = sessions_at a.bytes.now a.sessions.items;
+      auths = a.auths.items;
     } };
 
     ghost invariant = { λ a. (length a.bytes.now ≤ 4096)
         × (a.params_at + a.params_size ≤ length a.bytes.now)
-        × (a.params_at
-        ≡ place_behind (handle_list a.handle) (sessions_at a.bytes.now a.sessions.items))
-        × All (IsSession a.bytes.now) a.sessions.items };
+        × (a.params_at ≡ place_behind (handle_list a.handle) a.auths.items) };
 }
 
 impl<'a> ReplyAreas<'a> {
@@ -78,14 +76,14 @@ impl<'a> ReplyAreas<'a> {
     pub fn auth_count(&self) -> usize
         ensures { result ≡ length self.now.auths }
     {
-        self.sessions.len()
+        self.auths.len()
     }
 
     /// The session of this index, counted from 0, where there is one. It lends its nonce and its HMAC from the input.
     pub fn auth(&self, index: usize) -> Option<ReplyRef<'a>>
         ensures { result ≡ slice_get self.now.auths index }
     {
-        Some(session_at(self.bytes, *self.sessions.as_slice().get(index)?))
+        Some(self.auths.as_slice().get(index)?.again())
     }
 
     /// The parameters as they came, a part of the input: they are not judged yet.
@@ -124,14 +122,14 @@ fn take_with_sessions<'a>(
     let params_size = take_parameter_size(cursor)? as usize;
     let params_at = cursor.at();
     cursor.bytes(params_size)?;
-    let sessions = take_sessions(cursor, bytes)?;
+    let auths = take_sessions(cursor)?;
     Ok(ReplyAreas {
         bytes,
         code,
         handle,
         params_at,
         params_size,
-        sessions,
+        auths,
     })
 }
 
@@ -157,7 +155,7 @@ fn take_behind_code<'a>(
             handle: None,
             params_at: cursor.at(),
             params_size: 0,
-            sessions: ArrayVec::new(),
+            auths: ArrayVec::new(),
         });
     }
     let handle = take_reply_handle(cursor, code)?;
@@ -173,7 +171,7 @@ fn take_behind_code<'a>(
         handle,
         params_at,
         params_size,
-        sessions: ArrayVec::new(),
+        auths: ArrayVec::new(),
     })
 }
 

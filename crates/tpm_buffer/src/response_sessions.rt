@@ -1,13 +1,11 @@
-//! The sessions of a response, by their positions in its bytes, and the size that stands before them.
+//! The sessions of a response, and the size that stands before them.
 
-ghost use Rattle.std.specs.Prelude.{◌≡◌, ◌≤◌, ◌<◌, ◌+◌, ◌^◌, ◌++◌, IfOk, OnOk, drop, length};
-ghost use Rattle.std.specs.List.{All};
+ghost use Rattle.std.specs.Prelude.{◌≡◌, ◌≤◌, ◌<◌, ◌+◌, ◌++◌, IfOk, OnOk, drop, length};
 ghost use Rattle.tpm_wire.specs.Spelling.{spelling, joined_all};
 ghost use Rattle.tpm_wire.specs.Buffers.{Takes, TakesNumbered};
 ghost use Rattle.tpm_types.specs.Limits.{digest_bytes};
 ghost use Rattle.tpm_types.specs.Tpms.{auth_response};
 ghost use Rattle.tpm_buffer.specs.Responses.{further_sessions, parameter_size, reply_sessions};
-ghost use Rattle.tpm_buffer.specs.ResponseAreas.{IsPlaceIn, IsSession, session_at as the_session_at, sessions_at};
 
 use arrayvec::ArrayVec;
 use std::marker::Model;
@@ -37,7 +35,28 @@ impl<'a> Model for ReplyRef<'a> {
         × (length r.hmac.now ≤ digest_bytes) };
 }
 
+impl Default for ReplyRef<'_> {
+    fn default() -> Self {
+        ReplyRef {
+            nonce: &[],
+            attrs: SessionAttrs::default(),
+            hmac: &[],
+        }
+    }
+}
+
 impl<'a> ReplyRef<'a> {
+    // The same session.
+    pub(crate) fn again(&self) -> Self
+        ensures { result ≡ self.now }
+    {
+        ReplyRef {
+            nonce: self.nonce,
+            attrs: self.attrs,
+            hmac: self.hmac,
+        }
+    }
+
     /// The device's nonce, nonceTPM: at most `DIGEST_BYTES`.
     pub fn nonce(&self) -> &'a [u8]
         ensures value { result.now ≡ self.now.nonce }
@@ -95,60 +114,38 @@ pub(crate) fn take_session<'a>(cursor: &mut Cursor<'a>) -> Result<ReplyRef<'a>, 
     Ok(ReplyRef { nonce, attrs, hmac })
 }
 
-/// The session at this position of the response, where one was read.
-pub(crate) fn session_at<'a>(bytes: &'a [u8], at: u32) -> ReplyRef<'a>
-    requires short { length bytes.now < 2 ^ 32 }
-    requires session { IsSession bytes.now at }
-    ensures { result ≡ the_session_at bytes.now at }
-{
-    match take_session(&mut Cursor::new(&bytes[at as usize..])) {
-        Ok(session) => session,
-        Err(_) => unreachable!(),
-    }
-}
-
-/// The positions of the sessions after the first, to the end of the response: at most two.
+// The sessions after the first, to the end of the response: at most two.
 #[tactic(auto, unfolding(crate::specs::Responses::further_sessions))]
-fn take_further_sessions(cursor: &mut Cursor<'_>, bytes: &[u8]) -> Result<ArrayVec<u32, 3>, Refusal>
-    requires { IsPlaceIn bytes.now cursor.old.here }
-    ensures reads { TakesNumbered (λ v. sessions_at bytes.now v.items) further_sessions
-        cursor.old cursor.new result }
+fn take_further_sessions<'a>(cursor: &mut Cursor<'a>) -> Result<ArrayVec<ReplyRef<'a>, 3>, Refusal>
+    ensures reads { TakesNumbered (λ v. v.items) further_sessions cursor.old cursor.new result }
     ensures spelled { IfOk result
-        (λ v. cursor.old.here.rest
-        ≡ joined_all auth_response (sessions_at bytes.now v.items) ++ cursor.new.here.rest) }
-    ensures sessions { IfOk result (λ v. All (IsSession bytes.now) v.items) }
+        (λ v. cursor.old.here.rest ≡ joined_all auth_response v.items ++ cursor.new.here.rest) }
     ensures few { IfOk result (λ v. length v.items ≤ 2) }
 {
-    let mut positions = ArrayVec::new();
-    while cursor.left() > 0 && positions.len() < 2 {
-        cursor.number(of_session(2 + positions.len() as u32));
-        positions.push(cursor.at());
-        take_session(cursor)?;
+    let mut auths = ArrayVec::new();
+    while cursor.left() > 0 && auths.len() < 2 {
+        cursor.number(of_session(2 + auths.len() as u32));
+        let session = take_session(cursor)?;
+        auths.push(session);
     }
-    Ok(positions)
+    Ok(auths)
 }
 
-/// The positions of the sessions of a response, of which there is one at least.
+/// The sessions of a response, of which there is one at least.
 #[tactic(auto, unfolding(crate::specs::Responses::reply_sessions))]
-pub(crate) fn take_sessions(
-    cursor: &mut Cursor<'_>,
-    bytes: &[u8],
-) -> Result<ArrayVec<u32, 3>, Refusal>
-    requires { IsPlaceIn bytes.now cursor.old.here }
-    ensures reads { TakesNumbered (λ v. sessions_at bytes.now v.items) reply_sessions
-        cursor.old cursor.new result }
+pub(crate) fn take_sessions<'a>(
+    cursor: &mut Cursor<'a>,
+) -> Result<ArrayVec<ReplyRef<'a>, 3>, Refusal>
+    ensures reads { TakesNumbered (λ v. v.items) reply_sessions cursor.old cursor.new result }
     ensures spelled { IfOk result
-        (λ v. cursor.old.here.rest
-        ≡ spelling reply_sessions (sessions_at bytes.now v.items) ++ cursor.new.here.rest) }
-    ensures sessions { IfOk result (λ v. All (IsSession bytes.now) v.items) }
+        (λ v. cursor.old.here.rest ≡ spelling reply_sessions v.items ++ cursor.new.here.rest) }
     ensures some { IfOk result (λ v. 0 < length v.items) }
 {
     cursor.number(of_session(1));
-    let first = cursor.at();
-    take_session(cursor)?;
-    let mut positions = take_further_sessions(cursor, bytes)?;
-    positions.insert(0, first);
-    Ok(positions)
+    let first = take_session(cursor)?;
+    let mut auths = take_further_sessions(cursor)?;
+    auths.insert(0, first);
+    Ok(auths)
 }
 
 // Reads the sessions behind the first, which is there, to the end of the response: at most two.

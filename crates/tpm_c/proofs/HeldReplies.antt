@@ -25,7 +25,8 @@ use Rattle.tpm_commands.specs.Replies.{session_handle, reply_handles}
 use Rattle.tpm_types.specs.declared.command_code.CommandCode.TheVariants as codes
 use Rattle.tpm_buffer.specs.Responses.{response_front, response_code, parameter_size, further_sessions, reply_sessions}
 use Rattle.tpm_buffer.specs.Responses.{ReplyCut, raw_with_sessions, raw_without_sessions, cut_behind_code, reply_cut}
-use Rattle.tpm_buffer.specs.ResponseAreas.{IsPlaceIn, HasItsParams, place_behind}
+use Rattle.tpm_buffer.specs.ResponseAreas.{HasItsParams, place_behind}
+use Rattle.tpm_buffer.specs.inner.ResponseAreas.{IsPlaceIn}
 use Rattle.tpm_buffer.proofs.Places.{stands_first, stands_behind}
 use Rattle.tpm_buffer.proofs.ReadSessions.{place_before_sessions}
 use Rattle.tpm_model.proofs.Sealing.{okay, okay_is}

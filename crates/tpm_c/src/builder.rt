@@ -70,17 +70,23 @@ fn judged_len(len: usize) -> usize
     }
 }
 
-// Joins the parts, and copies into `out` what begins at this place, as many bytes as it has. The answer is the code,
-// and how many bytes are before the parameters; or the first fault before them. It is out of line, so that the joined
-// bytes are off the stack when the parameters are judged: the parts are joined as often as their bytes are looked at.
+// Joins the parts, and copies into `out` what begins at this place, as many bytes as it has. It is out of line, so that
+// the joined bytes are off the stack again: the parts are joined as often as their bytes are looked at.
 #[inline(never)]
-fn look(
-    parts: &UnjoinedCommand<'_>,
-    from: usize,
-    out: &mut [u8],
-) -> Result<(CommandCode, u32), Refusal>
+fn copy(parts: &UnjoinedCommand<'_>, from: usize, out: &mut [u8])
     requires { from + length out.old ≤ length parts.now }
-    ensures bytes { out.new ≡ take (length out.old) (drop from parts.now) }
+    ensures { out.new ≡ take (length out.old) (drop from parts.now) }
+{
+    let mut bytes = Buffer::new();
+    parts.join(&mut bytes);
+    let begun = &bytes.as_slice()[from..];
+    out.copy_from_slice(&begun[..out.len()]);
+}
+
+// The code of the joined parts, and how many bytes are before the parameters; or the first fault before them. It is out
+// of line for the same reason.
+#[inline(never)]
+fn front(parts: &UnjoinedCommand<'_>) -> Result<(CommandCode, u32), Refusal>
     ensures front { IfOk result (λ front. HasFront parts.now front.0 front.1) }
     ensures near { IfOk result (λ front. front.1 ≤ 4096) }
     ensures fault { IfErr result (λ e. Fault command_layout parts.now e) }
@@ -88,8 +94,6 @@ fn look(
     let mut bytes = Buffer::new();
     parts.join(&mut bytes);
     let joined = bytes.as_slice();
-    let begun = &joined[from..];
-    out.copy_from_slice(&begun[..out.len()]);
     match areas(joined) {
         Ok(areas) => Ok((areas.code(), areas.params_at())),
         Err(fault) => Err(fault),
@@ -125,7 +129,7 @@ fn judge_behind(parts: &UnjoinedCommand<'_>, code: CommandCode, at: u32) -> Resu
 {
     let mut window = [0; JUDGED_BYTES];
     let params = &mut window[..judged_len(parts.len() - at as usize)];
-    let _ = look(parts, at as usize, params);
+    copy(parts, at as usize, params);
     judge_at(code, at, params)
 }
 
@@ -134,7 +138,7 @@ fn judge(parts: &UnjoinedCommand<'_>) -> Result<(), Refusal>
     ensures spells { IfOk result (λ _. (c : Command) × Spells command_layout c parts.now) }
     ensures fault { IfErr result (λ e. Fault command_layout parts.now e) }
 {
-    let (code, at) = look(parts, parts.len(), &mut [])?;
+    let (code, at) = front(parts)?;
     if parts.len() == at as usize {
         return judge_at(code, at, &[]);
     }
@@ -147,7 +151,7 @@ fn write(parts: &UnjoinedCommand<'_>, out: &mut [u8]) -> usize
     ensures { IsIn parts.now out.old out.new result }
 {
     let len = parts.len();
-    let _ = look(parts, 0, &mut out[..len]);
+    copy(parts, 0, &mut out[..len]);
     len
 }
 

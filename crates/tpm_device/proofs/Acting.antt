@@ -18,7 +18,7 @@ use Rattle.tpm_model.specs.Actions.{action}
 use Rattle.tpm_model.specs.Answers.{Presented, Done, performed, with_outcome}
 use Rattle.tpm_model.specs.Premises.{code_in}
 use Rattle.tpm_model.proofs.OwnCode.{code_again}
-use Rattle.tpm_device.specs.declared.authorization.Authorization.{Authorization}
+use Rattle.tpm_session.specs.declared.authorize.Authorization.{Authorization}
 use Rattle.tpm_device.specs.declared.device.Device.{Device}
 use Rattle.tpm_device.specs.Stands.{holds, Stands}
 use Rattle.tpm_device.specs.inner.Checks.{presented_with}

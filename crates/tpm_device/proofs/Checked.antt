@@ -1,7 +1,7 @@
 -- What is known of a command that was read, and of the checks of its sessions.
-use Rattle.std.proofs.Common.{◌≡◌, ℕ, Bool, true, false, List, [], ◌∷◌, Option, Some, None, Ok, Err, refl, sym, ap}
+use Rattle.std.proofs.Common.{◌≡◌, ℕ, Bool, true, false, List, [], ◌∷◌, Option, Ok, refl, sym, ap}
 use Rattle.std.proofs.Common.{subst, ◌∙◌}
-use Rattle.std.specs.Prelude.{◌==◌, if◌then◌else◌, slice_get}
+use Rattle.std.specs.Prelude.{◌==◌, if◌then◌else◌}
 use Rattle.tpm_wire.specs.Buffers.{number_in, numbered}
 use Rattle.tpm_wire.specs.Token.{Here}
 use Rattle.tpm_wire.specs.Reading.{read, ◌>>=◌}
@@ -19,14 +19,13 @@ use Rattle.tpm_buffer.specs.CommandAreas.{Cut}
 use Rattle.tpm_model.specs.Sessions.{Session, loaded}
 use Rattle.tpm_model.specs.Present.{Present}
 use Rattle.tpm_model.specs.Entities.{Entity, entity_of, names_of}
-use Rattle.tpm_model.specs.Authorization.{Evidence, NotAsked, Password, by_session, check_loaded, check_session}
+use Rattle.tpm_model.specs.Authorization.{Evidence, NotAsked, Password, by_session, check_session}
 use Rattle.tpm_model.specs.Authorization.{check_entity, evidence_by, check_evidence, authorize, reply_auths}
 use Rattle.tpm_model.specs.Authorization.{password_reply}
 use Rattle.tpm_model.specs.Answers.{evidence_in}
 use Rattle.tpm_model.proofs.Sealing.{okay_is}
 use Rattle.tpm_model.proofs.Refused.{handles_read, same_list}
 use Rattle.tpm_session.specs.Entities.{authorized}
-use Rattle.tpm_session.proofs.Authorized.{authorize_refused}
 use Rattle.tpm_device.specs.inner.Checks.{evidence_for, sessions_checked, claim_of, owner_authorizes}
 
 -- ---- the handles
@@ -77,23 +76,6 @@ checked_by p x a others e code names params counter auths entity is_code is_para
     ∙ ap (λ (n : ℕ). authorize s (entity_of p (first x.handles)) x.header.code names x.params n (a ∷ others)) is_counter
     ∙ names_matter s (entity_of p (first x.handles)) x.header.code names (names_of p x.handles) x.params p.registers.update_counter a others are
     ∙ ap (authorized p.sessions (claim_of p x)) (sym auths)
-
--- Where the first session names nobody, that is the first refusal.
-pub unnamed : (p : Present) (x : Cut) (a : Auth) (others : List Auth) (code : ℕ) → x.auths ≡ a ∷ others
-    → check_loaded a.session (loaded p.sessions a.session) ≡ Err code → sessions_checked p x ≡ Err code
-unnamed p x a others code auths is =
-    ap (authorized p.sessions (claim_of p x)) auths
-    ∙ authorize_refused (loaded p.sessions a.session) (entity_of p (first x.handles)) x.header.code (names_of p x.handles) x.params
-    p.registers.update_counter a others code (sym is)
-
--- the sessions of a command, by the first of them
-pub no_auths : (auths : List Auth) → None ≡ slice_get auths 0 → auths ≡ []
-no_auths [] none = refl
-no_auths (a ∷ others) none = absurd (cc)
-
-pub first_auth : (auths : List Auth) (a : Auth) → Some a ≡ slice_get auths 0 → (others : List Auth) × (auths ≡ a ∷ others)
-first_auth [] a is = absurd (cc)
-first_auth (b ∷ others) a is = (others, cc)
 
 -- ---- the reply to a password
 

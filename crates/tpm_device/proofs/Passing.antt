@@ -31,11 +31,12 @@ use Rattle.tpm_model.specs.Premises.{code_in}
 use Rattle.tpm_model.proofs.Accepted.{ok_is}
 use Rattle.tpm_model.proofs.Refused.{refused_with}
 use Rattle.tpm_model.proofs.OwnCode.{no_session_read, needs_it}
-use Rattle.tpm_device.specs.declared.authorization.Authorization.{Authorization}
+use Rattle.tpm_session.specs.declared.authorize.Authorization.{Authorization}
+use Rattle.tpm_session.specs.Entities.{IsAuthorization}
 use Rattle.tpm_device.specs.declared.device.Device.{Device}
 use Rattle.tpm_device.specs.Stands.{holds}
 use Rattle.tpm_device.specs.inner.Checks.{evidence_for, sessions_checked, owner_authorizes, IsAdmitted, IsRead}
-use Rattle.tpm_device.specs.inner.Checks.{IsPermittedBy, presented_with, IsAuthorization}
+use Rattle.tpm_device.specs.inner.Checks.{IsPermittedBy, presented_with}
 use Rattle.tpm_device.specs.inner.Actions.{step_of, done_of, Steps}
 use Rattle.tpm_device.specs.inner.Answers.{Replies, Rolls, reply_bytes, told}
 use Rattle.tpm_device.specs.inner.Performing.{MayBePerformed, IsPerformed, Begin, End}
@@ -150,15 +151,15 @@ without_params old x fault reads = record {
 
 -- ---- the action
 
-by_none : (x : Cut) (s t : List (Option Session)) (needs : Bool) → (needs ≡ false → x.auths ≡ []) → (by : Option Authorization) → IsAuthorization s x by →
-    (needs ≡ true → t ≡ s) → IsAuthorization t x by
+by_none : (x : Cut) (s t : List (Option Session)) (needs : Bool) → (needs ≡ false → x.auths ≡ []) → (by : Option Authorization) → IsAuthorization s x.auths by →
+    (needs ≡ true → t ≡ s) → IsAuthorization t x.auths by
 by_none x s t needs none None is same = is
-by_none x s t true none (Some a) is same = subst (λ (u : List (Option Session)). IsAuthorization u x (Some a)) (sym (same refl)) is
-by_none x s t false none (Some a) is same = absurd (let empty : a.session ∷ is.others ≡ [] = sym is.auths ∙ none refl in cc)
+by_none x s t true none (Some a) is same = subst (λ (u : List (Option Session)). IsAuthorization u x.auths (Some a)) (sym (same refl)) is
+by_none x s t false none (Some a) is same = absurd (let empty : a.first.now ∷ is.others ≡ [] = sym is.are ∙ none refl in cc)
 
 -- A command that has acted is authorized as before.
 pub stays_authorized : (old new : Device) (x : Cut) (by : Option Authorization) (out : ArrayVec ℕ) → MayBePerformed old x by out
-    → (needs_authorization x.header.code ≡ true → new.sessions ≡ old.sessions) → IsAuthorization new.sessions x by
+    → (needs_authorization x.header.code ≡ true → new.sessions ≡ old.sessions) → IsAuthorization new.sessions x.auths by
 stays_authorized old new x by out ready same =
     by_none x old.sessions new.sessions (needs_authorization x.header.code) ready.admitted.sessions by ready.authorized same
 

@@ -10,12 +10,12 @@ ghost use Rattle.tpm_model.specs.Answers.{performed as performed_of};
 ghost use Rattle.tpm_device.specs.Stands.{holds};
 ghost use Rattle.tpm_device.specs.inner.Performing.{MayBePerformed, IsPerformed};
 
-use crate::authorization::Authorization;
 use crate::device::Device;
 use crate::reading::read_params;
 use crate::response::ResponseBuffer;
 use tpm_buffer::Areas;
 use tpm_commands::{Params, first_handle, policy_in};
+use tpm_session::Authorization;
 use tpm_types::{Digest, Selections};
 
 // The digest and the registers that are asserted, or the code of the parameters' first fault.
@@ -48,7 +48,7 @@ impl Device {
     pub(crate) fn performed_asserting(
         &mut self,
         areas: &Areas<'_>,
-        by: &Option<Authorization<'_>>,
+        by: &Option<Authorization<'_, '_>>,
         nonce: &[u8; 64],
         out: &mut ResponseBuffer,
     ) -> Result<(), u32>

@@ -3,23 +3,16 @@
 ghost use Rattle.std.specs.Prelude.{◌≡◌, ◌==◌, ◌≤◌, false, length};
 ghost use Rattle.tpm_types.specs.Handles.{rs_pw};
 ghost use Rattle.tpm_model.specs.Entities.{entity_of, name_of, names_of};
-ghost use Rattle.tpm_session.specs.Entities.{entity_in};
+ghost use Rattle.tpm_session.specs.Entities.{entity_in, Authorizes, IsAuthorization};
 ghost use Rattle.tpm_device.specs.Stands.{holds};
-ghost use Rattle.tpm_device.specs.inner.Checks.{sessions_checked, Authorizes, IsAuthorization, IsFound};
+ghost use Rattle.tpm_device.specs.inner.Checks.{sessions_checked};
 
 use crate::device::Device;
 use arrayvec::ArrayVec;
-use tpm_buffer::{Areas, AuthRef};
+use tpm_buffer::Areas;
 use tpm_commands::first_handle;
-use tpm_session::{Authority, Claim, Entity};
+use tpm_session::{Authority, Authorization, Claim, Entity};
 use tpm_types::{Name, NvIndex, PcrIndex, RH_OWNER, name_of_handle};
-
-/// How a command is authorized: its first session, and who that names.
-#[derive(Drop)]
-pub(crate) struct Authorization<'a> {
-    pub session: AuthRef<'a>,
-    pub by: Authority,
-}
 
 impl Device {
     /// What a handle names that is the first of a command which needs authorization, as it is now (Part 2, 7.2).
@@ -38,24 +31,6 @@ impl Device {
         match self.counters.definition(index) {
             Some(definition) => Entity::Index(definition),
             None => Entity::Null,
-        }
-    }
-
-    /// How the command is authorized, where it has sessions; or REFERENCE_S0, where the first is not
-    /// loaded.
-    #[inline(always)]
-    pub(crate) fn authorization<'a>(
-        &self,
-        areas: &Areas<'a>,
-    ) -> Result<Option<Authorization<'a>>, u32>
-        ensures { IsFound (holds self.now) areas.now result }
-    {
-        match areas.auth(0) {
-            None => Ok(None),
-            Some(session) => {
-                let by = self.sessions.authority(&session)?;
-                Ok(Some(Authorization { session, by }))
-            }
         }
     }
 
@@ -93,12 +68,12 @@ impl Device {
     #[inline(always)]
     fn check_with(
         &self,
-        by: &Authorization<'_>,
+        how: &Authorization<'_, '_>,
         areas: &Areas<'_>,
         names: &[Name],
     ) -> Result<(), u32>
-        requires own { Authorizes self.now.sessions areas.now by.now }
-        requires names { (by.now.session.session == rs_pw) ≡ false →
+        requires own { Authorizes self.now.sessions areas.now.auths how.now }
+        requires names { (how.now.first.now.session == rs_pw) ≡ false →
             names.now ≡ names_of (holds self.now) areas.now.handles }
         ensures { result ≡ sessions_checked (holds self.now) areas.now }
     {
@@ -109,19 +84,18 @@ impl Device {
             params: areas.params(),
             update_counter: self.registers.update_counter(),
         };
-        self.sessions
-            .authorize_by(by.by, &by.session, areas.auth_count(), &claim)
+        self.sessions.authorize_by(how, &claim)
     }
 
     // The same where it is no password, which would cover no Names.
     #[inline(never)]
-    fn check_named(&self, by: &Authorization<'_>, areas: &Areas<'_>) -> Result<(), u32>
+    fn check_named(&self, how: &Authorization<'_, '_>, areas: &Areas<'_>) -> Result<(), u32>
         requires few { length areas.now.handles ≤ 2 }
-        requires own { Authorizes self.now.sessions areas.now by.now }
+        requires own { Authorizes self.now.sessions areas.now.auths how.now }
         ensures { result ≡ sessions_checked (holds self.now) areas.now }
     {
         let names = self.names(areas.handles());
-        self.check_with(by, areas, names.as_slice())
+        self.check_with(how, areas, names.as_slice())
     }
 
     /// All checks of the sessions: they are the last checks before the parameters. A third session is
@@ -129,10 +103,10 @@ impl Device {
     pub(crate) fn check_sessions(
         &self,
         areas: &Areas<'_>,
-        by: &Option<Authorization<'_>>,
+        by: &Option<Authorization<'_, '_>>,
     ) -> Result<(), u32>
         requires few { length areas.now.handles ≤ 2 }
-        requires own { IsAuthorization self.now.sessions areas.now by.now }
+        requires own { IsAuthorization self.now.sessions areas.now.auths by.now }
         ensures { result ≡ sessions_checked (holds self.now) areas.now }
     {
         match by {

@@ -11,7 +11,6 @@ ghost use Rattle.tpm_device.specs.inner.Performing.{MayBePerformed, IsPerformed}
 ghost use Rattle.tpm_device.specs.inner.Actions.{IsActed};
 ghost use Rattle.tpm_device.specs.inner.Answers.{given, told};
 
-use crate::authorization::Authorization;
 use crate::bare::bare;
 use crate::checks::{check_started, check_tag};
 use crate::reading::read_params;
@@ -20,7 +19,7 @@ use tpm_buffer::{Areas, header};
 use tpm_commands::{Params, ReplyBody};
 use tpm_nv::Counters;
 use tpm_pcr::Registers;
-use tpm_session::Sessions;
+use tpm_session::{Authorization, Sessions};
 use tpm_types::{AuthValue, CommandCode, DIGEST_BYTES, Packed};
 
 /// A device of this profile.
@@ -178,7 +177,7 @@ impl Device {
     fn performed_by_action(
         &mut self,
         areas: &Areas<'_>,
-        by: &Option<Authorization<'_>>,
+        by: &Option<Authorization<'_, '_>>,
         nonce: &[u8; 64],
         out: &mut ResponseBuffer,
     ) -> Result<(), u32>
@@ -202,7 +201,7 @@ impl Device {
     fn performed_alone(
         &mut self,
         areas: &Areas<'_>,
-        by: &Option<Authorization<'_>>,
+        by: &Option<Authorization<'_, '_>>,
         nonce: &[u8; 64],
         out: &mut ResponseBuffer,
     ) -> Option<Result<(), u32>>
@@ -244,7 +243,7 @@ impl Device {
         ensures none { OnErr result (out.new ≡ out.old) }
     {
         let areas = self.presented(bytes)?;
-        let by = self.authorization(&areas)?;
+        let by = self.sessions.authorization(areas.auths())?;
         self.check_sessions(&areas, &by)?;
         match self.performed_alone(&areas, &by, nonce, out) {
             Some(given) => given,

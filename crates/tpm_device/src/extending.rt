@@ -10,11 +10,11 @@ ghost use Rattle.tpm_model.specs.Answers.{performed as performed_of};
 ghost use Rattle.tpm_device.specs.Stands.{holds};
 ghost use Rattle.tpm_device.specs.inner.Performing.{MayBePerformed, IsPerformed};
 
-use crate::authorization::Authorization;
 use crate::device::Device;
 use crate::response::ResponseBuffer;
 use tpm_buffer::Areas;
 use tpm_commands::{first_handle, pcr_or_null_in, read_pcr_extend};
+use tpm_session::Authorization;
 use tpm_types::DigestValues;
 use tpm_wire::{Cursor, Refusal};
 
@@ -36,7 +36,7 @@ impl Device {
     pub(crate) fn performed_extending(
         &mut self,
         areas: &Areas<'_>,
-        by: &Option<Authorization<'_>>,
+        by: &Option<Authorization<'_, '_>>,
         nonce: &[u8; 64],
         out: &mut ResponseBuffer,
     ) -> Result<(), u32>

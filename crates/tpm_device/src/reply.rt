@@ -8,11 +8,11 @@ ghost use Rattle.tpm_model.specs.Present.{Present};
 ghost use Rattle.tpm_model.specs.Authorization.{Evidence, reply_auths};
 ghost use Rattle.tpm_model.specs.Answers.{reply_params};
 ghost use Rattle.tpm_model.specs.Premises.{code_in};
-ghost use Rattle.tpm_device.specs.inner.Checks.{evidence_for, Authorizes, IsAuthorization};
+ghost use Rattle.tpm_session.specs.Entities.{Authorizes, IsAuthorization};
+ghost use Rattle.tpm_device.specs.inner.Checks.{evidence_for};
 ghost use Rattle.tpm_device.specs.inner.Actions.{IsAlike};
 ghost use Rattle.tpm_device.specs.inner.Answers.{Replies, Rolls, is_bare, bare_bytes, reply_bytes};
 
-use crate::authorization::Authorization;
 use crate::device::Device;
 use crate::response::{
     ResponseBuffer, put_bare_alone, put_bare_passed, put_bare_with, put_passed, put_reply,
@@ -20,27 +20,31 @@ use crate::response::{
 };
 use tpm_buffer::Areas;
 use tpm_commands::{ReplyBody, first_handle};
-use tpm_session::Authority;
+use tpm_session::{Answered, Authority, Authorization};
 use tpm_types::AuthReply;
 
 impl Device {
     // The session of a reply with these parameters to a command that is authorized so.
     fn reply_session(
         &self,
-        by: &Authorization<'_>,
+        how: &Authorization<'_, '_>,
         areas: &Areas<'_>,
         params: &[u8],
         nonce: &[u8; 64],
     ) -> AuthReply
-        requires own { Authorizes self.now.sessions areas.now by.now }
+        requires own { Authorizes self.now.sessions areas.now.auths how.now }
         ensures { (p : Present) (e : Evidence) →
             IsAlike p self.now (first_of areas.now.handles) →
             evidence_for p areas.now ≡ Ok e →
             reply_auths e areas.now.header.code params.now nonce.now ≡ result ∷ [] }
     {
         let entity = self.entity(first_handle(areas.handles()));
-        self.sessions
-            .reply_auth(by.by, &by.session, &entity, areas.code(), params, nonce)
+        let answered = Answered {
+            command: areas.code(),
+            params,
+            nonce,
+        };
+        self.sessions.reply_auth(how, &entity, &answered)
     }
 
     // Adds the reply to a command that a session authorized. The HMAC covers the parameters, which are written into the
@@ -48,13 +52,13 @@ impl Device {
     #[inline(never)]
     fn put_signed(
         &self,
-        by: &Authorization<'_>,
+        how: &Authorization<'_, '_>,
         areas: &Areas<'_>,
         body: &ReplyBody,
         nonce: &[u8; 64],
         out: &mut ResponseBuffer,
     )
-        requires own { Authorizes self.now.sessions areas.now by.now }
+        requires own { Authorizes self.now.sessions areas.now.auths how.now }
         requires empty { length out.old.items ≡ 0 }
         ensures bytes { (p : Present) (e : Evidence) →
             IsAlike p self.now (first_of areas.now.handles) →
@@ -66,7 +70,7 @@ impl Device {
         ensures done { code_in out.new.items ≡ 0 }
     {
         put_reply_params(body, out);
-        let session = self.reply_session(by, areas, out.as_slice(), nonce);
+        let session = self.reply_session(how, areas, out.as_slice(), nonce);
         out.clear();
         put_reply_with(body, &session, out);
     }
@@ -76,11 +80,11 @@ impl Device {
         &self,
         body: &ReplyBody,
         areas: &Areas<'_>,
-        by: &Option<Authorization<'_>>,
+        by: &Option<Authorization<'_, '_>>,
         nonce: &[u8; 64],
         out: &mut ResponseBuffer,
     )
-        requires own { IsAuthorization self.now.sessions areas.now by.now }
+        requires own { IsAuthorization self.now.sessions areas.now.auths by.now }
         requires empty { length out.old.items ≡ 0 }
         ensures bytes { Replies self.now areas.now (record {
           body = body.now;
@@ -103,12 +107,12 @@ impl Device {
     #[inline(never)]
     fn put_bare_signed(
         &self,
-        by: &Authorization<'_>,
+        how: &Authorization<'_, '_>,
         areas: &Areas<'_>,
         nonce: &[u8; 64],
         out: &mut ResponseBuffer,
     )
-        requires own { Authorizes self.now.sessions areas.now by.now }
+        requires own { Authorizes self.now.sessions areas.now.auths how.now }
         requires empty { length out.old.items ≡ 0 }
         ensures bytes { (p : Present) (e : Evidence) →
             IsAlike p self.now (first_of areas.now.handles) →
@@ -116,7 +120,7 @@ impl Device {
             out.new.items ≡ bare_bytes (reply_auths e areas.now.header.code [] nonce.now) }
         ensures done { code_in out.new.items ≡ 0 }
     {
-        let session = self.reply_session(by, areas, &[], nonce);
+        let session = self.reply_session(how, areas, &[], nonce);
         put_bare_with(&session, out);
     }
 
@@ -124,11 +128,11 @@ impl Device {
     pub(crate) fn put_bare(
         &self,
         areas: &Areas<'_>,
-        by: &Option<Authorization<'_>>,
+        by: &Option<Authorization<'_, '_>>,
         nonce: &[u8; 64],
         out: &mut ResponseBuffer,
     )
-        requires own { IsAuthorization self.now.sessions areas.now by.now }
+        requires own { IsAuthorization self.now.sessions areas.now.auths by.now }
         requires empty { length out.old.items ≡ 0 }
         ensures bytes { (body : BodyOf) →
             is_bare body ≡ true →
@@ -150,17 +154,13 @@ impl Device {
 
     /// After a command that was authorized so, done and answered: the nonce of its session rolls, or its slot is free.
     /// A password leaves nothing.
-    pub(crate) fn roll(&mut self, by: &Option<Authorization<'_>>, nonce: &[u8; 64])
+    pub(crate) fn roll(&mut self, by: &Option<Authorization<'_, '_>>, nonce: &[u8; 64])
         ensures { (x : Cut) →
-            IsAuthorization self.old.sessions x by.now →
+            IsAuthorization self.old.sessions x.auths by.now →
             Rolls self.old x.auths nonce.now self.new }
     {
-        match by {
-            Some(how) => {
-                self.sessions
-                    .roll(how.by, nonce, how.session.attrs().continues());
-            }
-            None => {}
+        if let Some(how) = by {
+            self.sessions.roll(how, nonce);
         }
     }
 }

@@ -13,15 +13,15 @@ ghost use Rattle.tpm_buffer.specs.Commands.{body_from};
 ghost use Rattle.tpm_model.specs.Answers.{performed as performed_of};
 ghost use Rattle.tpm_model.specs.Premises.{code_in};
 ghost use Rattle.tpm_device.specs.Stands.{holds};
-ghost use Rattle.tpm_device.specs.inner.Checks.{IsAuthorization};
+ghost use Rattle.tpm_session.specs.Entities.{IsAuthorization};
 ghost use Rattle.tpm_device.specs.inner.Performing.{MayBePerformed, IsPerformed};
 ghost use Rattle.tpm_device.specs.inner.Answers.{Replies};
 
-use crate::authorization::Authorization;
 use crate::device::Device;
 use crate::response::ResponseBuffer;
 use tpm_buffer::Areas;
 use tpm_commands::{ReplyBody, StartAuth, StartReply, bind_in, decode_start_into, second_handle};
+use tpm_session::Authorization;
 use tpm_types::{Alg, Nonce, SessionType, SymDef};
 
 // What a session is to be started with, or the code of the parameters' first fault.
@@ -54,11 +54,11 @@ impl Device {
         &self,
         reply: StartReply,
         areas: &Areas<'_>,
-        by: &Option<Authorization<'_>>,
+        by: &Option<Authorization<'_, '_>>,
         nonce: &[u8; 64],
         out: &mut ResponseBuffer,
     )
-        requires own { IsAuthorization self.now.sessions areas.now by.now }
+        requires own { IsAuthorization self.now.sessions areas.now.auths by.now }
         requires empty { length out.old.items ≡ 0 }
         ensures bytes { Replies self.now areas.now (record {
           body = replies.StartAuthSession reply;
@@ -76,7 +76,7 @@ impl Device {
     pub(crate) fn performed_starting(
         &mut self,
         areas: &Areas<'_>,
-        by: &Option<Authorization<'_>>,
+        by: &Option<Authorization<'_, '_>>,
         nonce: &[u8; 64],
         out: &mut ResponseBuffer,
     ) -> Result<(), u32>

@@ -1,2 +1,6 @@
 pub mod Reading
 mod OptionsRead
+mod Few
+mod Fronts
+mod Pieces
+mod Heads

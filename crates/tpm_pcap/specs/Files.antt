@@ -1,14 +1,13 @@
 -- What a file tells: of libpcap's format (pcap-savefile(5)), or of pcapng (IETF draft-ietf-opsawg-pcapng).
-use Rattle.std.specs.Prelude.{ℕ, zero, suc, ◌+◌, ◌%◌, ◌==◌, nat_lt, List, [], ◌∷◌, ◌++◌, length, drop, Option, Some}
-use Rattle.std.specs.Prelude.{None, Ok, Err, if◌then◌else◌}
+use Rattle.std.specs.Prelude.{◌≡◌, ◌<◌, ◌≤◌, ℕ, zero, suc, ◌+◌, ◌*◌, ◌%◌, ◌==◌, nat_lt, Bool, true, false}
+use Rattle.std.specs.Prelude.{List, [], ◌∷◌, ◌++◌, length, drop, Option, Some, None, Ok, Err, if◌then◌else◌}
 use Rattle.tpm_pcap.specs.declared.entry.Stamp.{Stamp}
 use Rattle.tpm_pcap.specs.declared.file.Format.TheVariants.{Savefile, Pcapng}
 use Rattle.tpm_pcap.specs.declared.file.Format.{Format}
-use Rattle.tpm_pcap.specs.declared.file.Traffic.{Traffic as RustTraffic}
 use Rattle.tpm_pcap.specs.declared.link.Link.{Link}
 use Rattle.tpm_pcap.specs.declared.numbers.Order.{Order}
 use Rattle.tpm_pcap.specs.Blocks.{Block, Describes, Captured, Simple, Other, Framed, Packet, Read}
-use Rattle.tpm_pcap.specs.Entries.{Entry, Untold, entries_as}
+use Rattle.tpm_pcap.specs.Entries.{Entry, Untold}
 use Rattle.tpm_pcap.specs.Links.{link_of}
 use Rattle.tpm_pcap.specs.Numbers.{number4_in}
 use Rattle.tpm_pcap.specs.Pcapng.{block_in}
@@ -19,7 +18,6 @@ use Rattle.tpm_pcap.specs.Talks.{Talk, new_talk, after_carried, carried_told, un
 use Rattle.tpm_pcap.specs.Blocks as blocks
 use Rattle.tpm_pcap.specs.Pcapng as pcapng
 use Rattle.tpm_pcap.specs.Savefiles as savefile
-use Rattle.tpm_pcap.specs.declared.file.Traffic.TheVariants as rust
 
 -- ---- how far a file has been read
 
@@ -81,8 +79,11 @@ entries_from format (suc most) r bytes =
     else read_told r (next_in format r.section.order bytes) (λ b. entries_from format most (after_block r b.block)
     (drop b.size bytes))
 
+abbrev pub blocks_told : Format → Reader → List ℕ → List Entry
+blocks_told format r bytes = entries_from format (length bytes) r bytes
+
 abbrev pub entries_of : (port : ℕ) → Format → Section → List ℕ → List Entry
-entries_of port format s bytes = entries_from format (length bytes) (reader_of port s) bytes
+entries_of port format s bytes = blocks_told format (reader_of port s) bytes
 
 -- ---- a file
 
@@ -91,11 +92,6 @@ pub data Traffic : Type 0 where
   NoCapture : Traffic
   OtherLink : (number : ℕ) → Traffic
   Entries : List Entry → Traffic
-
-abbrev pub traffic_as : RustTraffic → Traffic
-traffic_as rust.NoCapture = NoCapture
-traffic_as (rust.OtherLink number) = OtherLink number
-traffic_as (rust.Entries entries) = Entries (entries_as entries.items)
 
 -- libpcap's: behind its header, on the one interface of its kind of link
 abbrev pub on_link : Order → Link → (per_second : ℕ) → Section
@@ -126,3 +122,40 @@ traffic_by port (Some order) bytes = Entries (entries_of port Pcapng (new_sectio
 -- on the port of a simulator
 abbrev pub traffic_in : (port : ℕ) → List ℕ → Traffic
 traffic_in port bytes = traffic_by port (pcapng.order_of bytes) bytes
+
+-- ---- a file that comes in pieces
+
+-- what has come of the next block, behind those that were told
+pub record FilePlace : Type 0 where
+  pub format : Format
+  pub reader : Reader
+  pub held : List ℕ
+
+-- what is told where these bytes are all that come
+abbrev pub left_told : FilePlace → List ℕ → List Entry
+left_told f rest = blocks_told f.format f.reader (f.held ++ rest)
+
+-- No block tells more: each byte of a segment, which are fewer than 2^16, ends a message at most, and besides them a
+-- message that did not come whole, another connection and what is wrong with the segment are told.
+abbrev pub most_told : ℕ
+most_told = 65539
+
+-- a piece, and what was told of it
+pub record Piece : Type 0 where
+  pub old : FilePlace
+  pub piece : List ℕ
+  pub new : FilePlace
+  pub told : List Entry
+
+-- What is told of a file is what was told, and what is told from there on.
+pub record Goes (p : Piece) : Type 0 where
+  pub some : 0 < length p.piece
+  pub left : (rest : List ℕ) → left_told p.old (p.piece ++ rest) ≡ p.told ++ left_told p.new rest
+  pub few : length p.told + most_told * length p.new.held ≤ most_told * (length p.old.held + length p.piece)
+  pub number : p.new.reader.packet + length p.new.held ≤ p.old.reader.packet + length p.old.held + length p.piece
+
+-- So it goes on, or no more is told, and no bytes are the end of it.
+abbrev pub TakesPiece : Piece → (more : Bool) → Type 0
+TakesPiece p true = Goes p
+TakesPiece p false = ((rest : List ℕ) → (p.piece ≡ [] → rest ≡ []) → left_told p.old (p.piece ++ rest) ≡ p.told)
+    × (length p.told ≤ most_told * (length p.old.held + length p.piece) + 2)

@@ -12,4 +12,5 @@ pub mod Times
 pub mod Ways
 pub mod Talks
 pub mod Files
+pub mod Heads
 pub mod inner

@@ -1,28 +1,23 @@
-//! What went over a port, by a file of either format.
+//! What went over a port, by the blocks of a file of either format.
 
-ghost use Rattle.std.specs.Prelude.{◌≡◌, ◌≤◌, ◌<◌, ◌+◌, ◌^◌, ◌++◌, length, IfOk, OnOk};
+ghost use Rattle.std.specs.Prelude.{◌≡◌, ◌≤◌, ◌<◌, ◌+◌, ◌^◌, ◌++◌, ℕ, List, length, IfOk, OnOk};
 ghost use Rattle.tpm_pcap.specs.inner.Blocks.{block_as, packet_as, read_as};
-ghost use Rattle.tpm_pcap.specs.Entries.{entries_as};
-ghost use Rattle.tpm_pcap.specs.Files.{after_block, after_packet, block_told, ended, Entries, entries_of, next_in};
-ghost use Rattle.tpm_pcap.specs.Files.{on_link, packet_told, reader_of, savefile_traffic, traffic_as};
-ghost use Rattle.tpm_pcap.specs.inner.Files.{reader_as};
-ghost use Rattle.tpm_pcap.specs.Files.{traffic_in};
+ghost use Rattle.tpm_pcap.specs.Entries.{Entry as SpecEntry, entries_as};
+ghost use Rattle.tpm_pcap.specs.Files.{after_block, after_packet, block_told, ended, most_told, next_in};
+ghost use Rattle.tpm_pcap.specs.Files.{packet_told, reader_of, TakesPiece};
+ghost use Rattle.tpm_pcap.specs.inner.Files.{may_go_on, reader_as, TakesBlocks};
 ghost use Rattle.tpm_pcap.specs.inner.Sections.{section_as};
 
-use crate::block::{Block, Interface, Packet, Read};
+use crate::block::{Block, Packet, Read};
 use crate::entry::{Entry, Reason, Stamp};
-use crate::link::{Link, link_of};
-use crate::numbers::{Order, number4_in};
+use crate::numbers::Order;
 use crate::pcapng::block_in;
 use crate::savefile::record_in;
 use crate::section::Section;
 use crate::segment::behind;
 use crate::talk::Talk;
-use crate::{pcapng, savefile};
 use std::alloc::{AllocError, Global};
-
-/// How many bytes precede the first packet in a file of libpcap.
-const HEAD: usize = 24;
+use std::marker::Model;
 
 /// The format of a file.
 #[derive(Clone, Copy, Debug, PartialEq, Eq)]
@@ -35,27 +30,39 @@ pub(crate) enum Format {
 
 /// How far a file has been read.
 #[derive(Drop)]
-pub(crate) struct Reader<'a> {
+pub(crate) struct Reader {
     // the simulator's port
     port: u16,
     section: Section,
-    talk: Talk<'a>,
+    talk: Talk,
     // the number of the next packet
     packet: u64,
 }
 
-/// What went over the port, if the file tells.
+/// A file of packets that comes in pieces, of which no more is held than the block that has not come whole, and what
+/// has come of a message.
 #[derive(Drop)]
-pub enum Traffic {
-    /// The file is no capture.
-    NoCapture,
-    /// It was captured on a kind of link with this number, which is not known.
-    OtherLink(u32),
-    /// What went over the port.
-    Entries(Vec<Entry>),
+pub struct PacketFile {
+    format: Format,
+    reader: Reader,
+    // what has come of the next block
+    held: Vec<u8>,
 }
 
-impl<'a> Reader<'a> {
+impl Model for PacketFile {
+    ghost use Rattle.tpm_pcap.specs.Files.{FilePlace};
+    ghost use Rattle.tpm_pcap.specs.inner.Files.{reader_as};
+
+    ghost Value = { FilePlace };
+
+    ghost view = { λ f. record {
+      format = f.format;
+      reader = reader_as f.reader;
+      held = f.held.items;
+    } };
+}
+
+impl Reader {
     // At the first packet.
     fn new(alloc: Global, port: u16, section: Section) -> Self
         ensures { reader_as result ≡ reader_of port (section_as section) }
@@ -72,14 +79,15 @@ impl<'a> Reader<'a> {
     fn take_packet(
         &mut self,
         alloc: Global,
-        packet: &Packet<'a>,
+        packet: &Packet<'_>,
         entries: &mut Vec<Entry>,
     ) -> Result<(), AllocError>
         requires { self.old.packet + 1 < 2 ^ 64 }
         ensures { OnOk result ((reader_as self.new
             ≡ after_packet (reader_as self.old) (packet_as packet.now))
             × (entries_as entries.new.items ≡ entries_as entries.old.items
-            ++ packet_told (reader_as self.old) (packet_as packet.now))) }
+            ++ packet_told (reader_as self.old) (packet_as packet.now))
+            × (length (packet_told (reader_as self.old) (packet_as packet.now)) ≤ most_told)) }
     {
         let carried = self.section.carried_of(self.port, packet);
         let stamp = Stamp {
@@ -95,14 +103,15 @@ impl<'a> Reader<'a> {
     fn take(
         &mut self,
         alloc: Global,
-        block: &Block<'a>,
+        block: &Block<'_>,
         entries: &mut Vec<Entry>,
     ) -> Result<(), AllocError>
         requires { self.old.packet + 1 < 2 ^ 64 }
         ensures { OnOk result ((reader_as self.new
             ≡ after_block (reader_as self.old) (block_as block.now))
             × (entries_as entries.new.items ≡ entries_as entries.old.items
-            ++ block_told (reader_as self.old) (block_as block.now))) }
+            ++ block_told (reader_as self.old) (block_as block.now))
+            × (length (block_told (reader_as self.old) (block_as block.now)) ≤ most_told)) }
     {
         match block {
             Block::Section(order) => {
@@ -142,119 +151,119 @@ fn next_in<'a>(format: Format, order: Order, bytes: &'a [u8]) -> Read<'a>
     }
 }
 
-// Adds what went over the port in the blocks of a section and of those behind it.
-fn take_blocks<'a>(
-    alloc: Global,
-    port: u16,
-    format: Format,
-    section: Section,
-    blocks: &'a [u8],
-    entries: &mut Vec<Entry>,
-) -> Result<(), AllocError>
-    ensures { OnOk result (entries_as entries.new.items
-        ≡ entries_as entries.old.items ++ entries_of port format (section_as section) blocks.now) }
+// Whether bytes may still come of what the next block lacks.
+fn may_go_on(last: bool, reason: Reason) -> bool
+    ensures { result ≡ may_go_on last reason }
 {
-    let mut reader = Reader::new(alloc, port, section);
-    let mut rest = blocks;
-    while !rest.is_empty() {
-        match next_in(format, reader.section.order, rest) {
+    match reason {
+        Reason::CutShort => !last,
+        _ => false,
+    }
+}
+
+// Takes the blocks that have come whole, and answers how many bytes these have, or none where nothing behind them is
+// told.
+fn take_blocks(
+    alloc: Global,
+    format: Format,
+    reader: &mut Reader,
+    bytes: &[u8],
+    last: bool,
+    entries: &mut Vec<Entry>,
+) -> Result<Option<usize>, AllocError>
+    requires { reader.old.packet + length bytes.now < 2 ^ 64 }
+    ensures { IfOk result (λ used. (told : List SpecEntry)
+        × (entries_as entries.new.items ≡ entries_as entries.old.items ++ told)
+        × TakesBlocks (record {
+          format = format;
+          old = reader_as reader.old;
+          bytes = bytes.now;
+          last = last;
+          new = reader_as reader.new;
+          told = told;
+        }) used) }
+{
+    let mut used = 0;
+    while used < bytes.len() {
+        match next_in(format, reader.section.order, behind(bytes, used)) {
             Ok(next) => {
                 reader.take(alloc, &next.block, entries)?;
-                rest = behind(rest, next.size);
+                used += next.size;
             }
             Err(reason) => {
+                if may_go_on(last, reason) {
+                    return Ok(Some(used));
+                }
                 entries.push(Entry::Untold(reader.packet, reason))?;
-                return reader.end(entries);
+                reader.end(entries)?;
+                return Ok(None);
             }
         }
     }
-    reader.end(entries)
-}
-
-// What went over the port in blocks.
-fn traffic_of(
-    alloc: Global,
-    port: u16,
-    format: Format,
-    section: Section,
-    blocks: &[u8],
-) -> Result<Traffic, AllocError>
-    ensures { IfOk result (λ traffic. traffic_as traffic
-        ≡ Entries (entries_of port format (section_as section) blocks.now)) }
-{
-    let mut entries = Vec::new(alloc);
-    take_blocks(alloc, port, format, section, blocks, &mut entries)?;
-    Ok(Traffic::Entries(entries))
-}
-
-// The section that a file of libpcap is.
-fn on_link(order: Order, link: Link, per_second: u64) -> Section
-    ensures { section_as result ≡ on_link order link per_second }
-{
-    let mut section = Section::new(order);
-    section.describe(Interface {
-        link: Some(link),
-        limit: 0,
-        per_second,
-    });
-    section
-}
-
-// What a file tells that is no pcapng.
-fn savefile_traffic(alloc: Global, file: &[u8], port: u16) -> Result<Traffic, AllocError>
-    ensures { IfOk result (λ traffic. traffic_as traffic ≡ savefile_traffic port file.now) }
-{
-    if file.len() < HEAD {
-        return Ok(Traffic::NoCapture);
+    if !last {
+        return Ok(Some(used));
     }
-    let Some(order) = savefile::order_of(file) else {
-        return Ok(Traffic::NoCapture);
-    };
-    let number = number4_in(order, file, 20) % 65536;
-    let Some(link) = link_of(number) else {
-        return Ok(Traffic::OtherLink(number));
-    };
-    let section = on_link(order, link, savefile::per_second(file));
-    traffic_of(alloc, port, Format::Savefile, section, behind(file, HEAD))
+    reader.end(entries)?;
+    Ok(None)
 }
 
-/// What went over a TPM simulator's port in the packets of a file of libpcap (pcap-savefile(5)) or of pcapng
-/// (draft-ietf-opsawg-pcapng), in their order.
-///
-/// The numbers of a file of libpcap are in either order, and its times in microseconds or nanoseconds. Packets are
-/// of IPv4 or IPv6 (RFC 791, RFC 8200) over Ethernet, over Linux's cooked links, over a loopback or over nothing. Those
-/// of other protocols and ports are passed over. A packet of IPv6 with another header than a fragment's between its own
-/// and TCP's, a frame with a VLAN tag or a malformed TCP header is passed over too, and is not named.
-///
-/// A file of pcapng begins with a Section Header Block, whose Byte-Order Magic is in either order. Of its blocks those
-/// count that begin a section, describe an interface, or have a packet, Enhanced or Simple. Others are passed over. The
-/// link of a packet is that of its interface in its section, of which the first 64 are known. A packet on another
-/// interface, or on a link of another kind, is named as on a link that is not known. Of a file of libpcap such a link
-/// is all that is told.
-///
-/// mssim's port for commands is 2321, and so is swtpm's for data. A segment of TCP (RFC 9293) counts where it is the
-/// next of its way by its number; what it carries may be a part of a message, or several. A message to mssim is
-/// TPM_SEND_COMMAND, a locality, a size and a command, or TPM_SESSION_END; one from it is a size, a response and four
-/// bytes. One of swtpm is a frame alone, and begins with its tag. One connection is told at a time: where a segment of
-/// another comes, that one begins.
-///
-/// Each other packet of the port that is not told is named with its reason, and so are those of which too few bytes
-/// were captured to tell their port, and fragments of TCP. The segments behind it are told on, from the next message
-/// that begins with one.
-///
-/// Where the file ends in a packet or a block, or a block is malformed, the next packet is named, and is the last. A
-/// block is malformed where its length is below 12 or no multiple of four, or isn't repeated at its end. So is one in
-/// which what it is to tell doesn't fit, and a Section Header Block of another magic or major version than 1.
-///
-/// A message has the number and the time of the packet in which it ends. Of pcapng, Enhanced Packet Blocks have times;
-/// none is told on an interface whose units are not known, or that has an if_tsoffset.
-///
-/// The error is that a request for memory was refused. The whole of what is told is held.
-pub fn traffic_in(alloc: Global, file: &[u8], port: u16) -> Result<Traffic, AllocError>
-    ensures { IfOk result (λ traffic. traffic_as traffic ≡ traffic_in port file.now) }
-{
-    match pcapng::order_of(file) {
-        Some(order) => traffic_of(alloc, port, Format::Pcapng, Section::new(order), file),
-        None => savefile_traffic(alloc, file, port),
+impl PacketFile {
+    /// A file of this format whose blocks begin with these bytes.
+    pub(crate) fn new(
+        alloc: Global,
+        format: Format,
+        port: u16,
+        section: Section,
+        blocks: &[u8],
+    ) -> Result<Self, AllocError>
+        ensures { IfOk result (λ file. file ≡ record {
+          format = format;
+          reader = reader_of port (section_as section);
+          held = blocks.now;
+        }) }
+    {
+        Ok(PacketFile {
+            format,
+            reader: Reader::new(alloc, port, section),
+            held: Vec::from_slice(alloc, blocks)?,
+        })
+    }
+
+    /// Takes the next bytes, and adds what went over the port in the packets that have come whole. No bytes are the end
+    /// of the file. The answer is whether more may be told: it is not behind the end, nor behind a malformed block.
+    ///
+    /// The error is that a request for memory was refused. What was added and what is held is then left open.
+    pub fn take(
+        &mut self,
+        alloc: Global,
+        piece: &[u8],
+        entries: &mut Vec<Entry>,
+    ) -> Result<bool, AllocError>
+        requires { self.old.reader.packet + length self.old.held + length piece.now < 2 ^ 64 }
+        ensures { IfOk result (λ more. (told : List SpecEntry)
+            × (entries_as entries.new.items ≡ entries_as entries.old.items ++ told)
+            × TakesPiece (record {
+              old = self.old;
+              piece = piece.now;
+              new = self.new;
+              told = told;
+            }) more) }
+    {
+        self.held.extend_from_slice(piece)?;
+        let held = self.held.as_slice();
+        match take_blocks(
+            alloc,
+            self.format,
+            &mut self.reader,
+            held,
+            piece.is_empty(),
+            entries,
+        )? {
+            Some(used) => {
+                self.held.drain(..used);
+                Ok(true)
+            }
+            None => Ok(false),
+        }
     }
 }

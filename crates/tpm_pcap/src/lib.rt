@@ -4,6 +4,7 @@
 mod block;
 mod entry;
 mod file;
+mod head;
 mod link;
 mod message;
 mod numbers;
@@ -17,6 +18,7 @@ mod time;
 mod way;
 
 pub use entry::{Entry, Reason, Stamp};
-pub use file::{Traffic, traffic_in};
+pub use file::PacketFile;
+pub use head::{FileHead, HEAD, read_head};
 pub use numbers::{number2, number4};
 pub use segment::behind;

@@ -1,6 +1,6 @@
 //! The connection that is told.
 
-ghost use Rattle.std.specs.Prelude.{◌≡◌, ◌<◌, ◌++◌, OnOk};
+ghost use Rattle.std.specs.Prelude.{◌≡◌, ◌<◌, ◌++◌, IfOk, OnOk};
 ghost use Rattle.tpm_pcap.specs.Entries.{entries_as};
 ghost use Rattle.tpm_pcap.specs.inner.Segments.{carried_as, segment_as, IsSmall};
 ghost use Rattle.tpm_pcap.specs.Talks.{after_carried, after_matter, after_same, carried_told, is_same};
@@ -14,9 +14,9 @@ use std::alloc::{AllocError, Global};
 
 /// A connection of a client with a simulator.
 #[derive(Drop)]
-pub(crate) struct Talk<'a> {
-    client: &'a [u8],
-    simulator: &'a [u8],
+pub(crate) struct Talk {
+    client: Vec<u8>,
+    simulator: Vec<u8>,
     port: u32,
     to: Way,
     back: Way,
@@ -29,14 +29,14 @@ fn matters(segment: &Segment<'_>) -> bool
     segment.opens || segment.size != 0
 }
 
-impl<'a> Talk<'a> {
+impl Talk {
     /// No connection.
     pub(crate) fn new(alloc: Global) -> Self
         ensures { talk_as result ≡ new_talk }
     {
         Talk {
-            client: &[],
-            simulator: &[],
+            client: Vec::new(alloc),
+            simulator: Vec::new(alloc),
             port: 0,
             to: Way::new(alloc),
             back: Way::new(alloc),
@@ -44,23 +44,23 @@ impl<'a> Talk<'a> {
     }
 
     // The connection of a segment, of which nothing has come.
-    fn begun(alloc: Global, segment: &Segment<'a>) -> Self
-        ensures { talk_as result ≡ talk_of (segment_as segment.now) }
+    fn begun(alloc: Global, segment: &Segment<'_>) -> Result<Self, AllocError>
+        ensures { IfOk result (λ talk. talk_as talk ≡ talk_of (segment_as segment.now)) }
     {
-        Talk {
-            client: segment.client,
-            simulator: segment.simulator,
+        Ok(Talk {
+            client: Vec::from_slice(alloc, segment.client)?,
+            simulator: Vec::from_slice(alloc, segment.simulator)?,
             port: segment.port,
             to: Way::new(alloc),
             back: Way::new(alloc),
-        }
+        })
     }
 
     fn is_same(&self, segment: &Segment<'_>) -> bool
         ensures { result ≡ is_same (talk_as self.now) (segment_as segment.now) }
     {
-        self.client == segment.client
-            && self.simulator == segment.simulator
+        self.client.as_slice() == segment.client
+            && self.simulator.as_slice() == segment.simulator
             && self.port == segment.port
     }
 
@@ -81,7 +81,7 @@ impl<'a> Talk<'a> {
         &mut self,
         alloc: Global,
         stamp: Stamp,
-        segment: &Segment<'a>,
+        segment: &Segment<'_>,
         entries: &mut Vec<Entry>,
     ) -> Result<(), AllocError>
         requires { segment.now.size < 65536 }
@@ -102,7 +102,7 @@ impl<'a> Talk<'a> {
         &mut self,
         alloc: Global,
         stamp: Stamp,
-        segment: &Segment<'a>,
+        segment: &Segment<'_>,
         entries: &mut Vec<Entry>,
     ) -> Result<(), AllocError>
         requires { segment.now.size < 65536 }
@@ -116,7 +116,7 @@ impl<'a> Talk<'a> {
         }
         self.end(stamp.packet, entries)?;
         entries.push(Entry::Connection)?;
-        *self = Talk::begun(alloc, segment);
+        *self = Talk::begun(alloc, segment)?;
         self.take_same(alloc, stamp, segment, entries)
     }
 
@@ -125,7 +125,7 @@ impl<'a> Talk<'a> {
         &mut self,
         alloc: Global,
         stamp: Stamp,
-        carried: &Carried<'a>,
+        carried: &Carried<'_>,
         entries: &mut Vec<Entry>,
     ) -> Result<(), AllocError>
         requires { IsSmall (carried_as carried.now) }

@@ -3,7 +3,7 @@
 use std::alloc::Global;
 use std::process::Abort;
 use std::test::*;
-use tpm_pcap::{Entry, Reason, Traffic, traffic_in};
+use tpm_pcap::{Entry, FileHead, HEAD as HEAD_SIZE, Reason, read_head};
 use tpm_testing::bytes;
 
 // A file in microseconds, over Ethernet.
@@ -147,7 +147,29 @@ fn is_entry(entry: &Entry, mark: &str, frame: &[u8]) -> bool {
     }
 }
 
-// The parts of a file are told so.
+// What went over the port in a file whose bytes come in two pieces, if it is a capture.
+fn entries_in(alloc: Global, front: &[u8], rest: &[u8]) -> Option<Vec<Entry>> {
+    let Ok(FileHead::Packets(mut file)) = read_head(alloc, front, 2321) else {
+        return None;
+    };
+    let mut entries = Vec::new(alloc);
+    if rest.is_empty() || file.take(alloc, rest, &mut entries).ok()? {
+        file.take(alloc, &[], &mut entries).ok()?;
+    }
+    Some(entries)
+}
+
+// Two pieces of a file are told so.
+fn told_in(rt: &impl Abort, alloc: Global, front: &[u8], rest: &[u8], wanted: &[(&str, &str)]) {
+    let entries = entries_in(alloc, front, rest).expect(rt, "a capture");
+    assert!(rt; entries.len() == wanted.len());
+    for (entry, (mark, frame)) in entries.iter().zip(wanted) {
+        let frame = bytes(frame).expect(rt, "hexadecimal");
+        assert!(rt; is_entry(entry, mark, frame.as_slice()));
+    }
+}
+
+// The parts of a file are told so, wherever it is cut.
 fn told(rt: &impl Abort, alloc: Global, parts: &[&str], wanted: &[(&str, &str)]) {
     let mut file = Vec::new(alloc);
     for part in parts {
@@ -156,14 +178,10 @@ fn told(rt: &impl Abort, alloc: Global, parts: &[&str], wanted: &[(&str, &str)])
             .ok()
             .expect(rt, "memory");
     }
-    let Ok(Traffic::Entries(entries)) = traffic_in(alloc, file.as_slice(), 2321) else {
-        assert!(rt; false);
-        return;
-    };
-    assert!(rt; entries.len() == wanted.len());
-    for (entry, (mark, frame)) in entries.iter().zip(wanted) {
-        let frame = bytes(frame).expect(rt, "hexadecimal");
-        assert!(rt; is_entry(entry, mark, frame.as_slice()));
+    assert!(rt; file.len() >= HEAD_SIZE);
+    for cut in HEAD_SIZE..=file.len() {
+        let (front, rest) = file.as_slice().split_at(cut);
+        told_in(rt, alloc, front, rest, wanted);
     }
 }
 
@@ -280,11 +298,13 @@ fn blocks_that_are_cut_short(rt: HostRuntime) {
     behind_command(&rt, alloc, "0500000010000000", "cut short");
     behind_command(&rt, alloc, "050000001000000000000000", "cut short");
     told(&rt, alloc, &[SECTION, "00"], &[("cut short", "01")]);
+    let section = bytes("0a0d0d0a1c0000004d3c2b1a").expect(&rt, "hexadecimal");
+    told_in(&rt, alloc, section.as_slice(), &[], &[("cut short", "01")]);
 }
 
 #[test]
 fn files_that_are_no_captures(rt: HostRuntime) {
     let alloc = rt.alloc();
-    assert!(&rt; matches!(traffic_in(alloc, &[], 2321), Ok(Traffic::NoCapture)));
-    assert!(&rt; matches!(traffic_in(alloc, &[0; 24], 2321), Ok(Traffic::NoCapture)));
+    assert!(&rt; matches!(read_head(alloc, &[], 2321), Ok(FileHead::NoCapture)));
+    assert!(&rt; matches!(read_head(alloc, &[0; 24], 2321), Ok(FileHead::NoCapture)));
 }

@@ -13,7 +13,7 @@ use Rattle.tpm_show.specs.Build.{Builds}
 use Rattle.tpm_show.specs.Capture.{ReadsAll, TellsCapture}
 use Rattle.tpm_names.specs.Codes.{code_of_name}
 use Rattle.tpm_show.specs.Explain.{explain_status, explanation}
-use Rattle.tpm_show.specs.Packets.{TellsPackets}
+use Rattle.tpm_show.specs.Packets.{OfReadUpTo, TellsPackets, most_packets}
 use Rattle.tpm_show.specs.Show.{Shows, ShowsFields}
 use Rattle.tpm_show.specs.Stream.{OfRead, TellsStream}
 use Rattle.tpm_script.specs.ShowNv.{ShowsNv}
@@ -44,10 +44,6 @@ OfFirst most P coming = (bytes : List ℕ) × (rest : Option (List ℕ)) × Read
 -- one more than any NV memory takes
 abbrev pub most_kept : ℕ
 most_kept = 1027
-
--- 2^30
-abbrev pub most_packets : ℕ
-most_packets = 1073741824
 
 -- ---- frames
 
@@ -169,7 +165,7 @@ Performs offered (ShowCapture file binary fields json) status text =
     OfPlace offered file (λ capture.
     TellsFrames (form_of binary (record { fields = fields; json = json })) capture status text)
 Performs offered (ShowPackets file port fields json) status text =
-    OfFile offered file.now (OfFirst most_packets (λ bytes.
+    OfFile offered file.now (λ packets. (rest : Option (List ℕ)) × OfReadUpTo most_packets packets rest (λ bytes.
     TellsPackets (record { fields = fields; json = json }) port bytes status text))
 Performs offered (ShowNv file) status text =
     OfFile offered file.now (OfFirst most_kept (λ bytes. ShowsNv bytes status text))

@@ -23,9 +23,6 @@ use tpm_show::{Telling, show_lines, show_packets, show_stream};
 use tpm_types::AuthValue;
 use tpm_wire::Source;
 
-/// How many bytes of packets are read at most.
-const MOST_PACKETS: usize = 1_073_741_824;
-
 // Tells the frames of a capture: of a stream where it is binary, and else of its lines.
 fn show_frames<S: Source, W: Write>(
     alloc: Global,
@@ -129,8 +126,8 @@ pub(crate) fn show_traffic<'a, I: Inputs, W: Write>(
         Fails (I.offers inputs.now) (ShowPackets path.entry port how.fields how.json) fault) }
 {
     let mut packets = opened(inputs, path)?;
-    match read_up_to(alloc, &mut packets, MOST_PACKETS) {
-        Ok(bytes) => Ok(show_packets(alloc, out, bytes.as_slice(), port, how)?),
+    match show_packets(alloc, &mut packets, out, port, how) {
+        Ok(status) => Ok(status),
         Err(fault) => Err(of_reading(inputs, fault, path)),
     }
 }

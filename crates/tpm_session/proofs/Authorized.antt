@@ -1,6 +1,6 @@
 -- What an authorized command says of its evidence, and the session of its reply.
-use Rattle.std.proofs.Common.{◌≡◌, ℕ, ◌<◌, Bool, true, false, List, [], ◌∷◌, length, get_or, ◌&&◌, Option, Some, None, Result, Ok, Err}
-use Rattle.std.proofs.Common.{IsSome, refl, sym, ap, ◌∙◌, arith}
+use Rattle.std.proofs.Common.{◌≡◌, ℕ, Bool, true, false, List, [], ◌∷◌, ◌&&◌, Option, Some, None, Result, Ok, Err}
+use Rattle.std.proofs.Common.{IsSome, refl, sym, ap, ◌∙◌}
 use Rattle.std.proofs.lemmas.Bool.{both_ways}
 use Rattle.std.specs.Prelude.{if◌then◌else◌}
 use Rattle.tpm_wire.specs.Reading.{◌>>=◌}
@@ -19,7 +19,7 @@ use Rattle.tpm_model.specs.Authorization.{check_evidence, evidence_by, evidence_
 use Rattle.tpm_model.specs.Authorization.{password_reply, Signed}
 use Rattle.tpm_session.specs.declared.authorize.Authority.TheVariants as authorities
 use Rattle.tpm_session.specs.declared.authorize.Authority.{Authority}
-use Rattle.tpm_session.specs.Entities.{IsAuthority, with_session}
+use Rattle.tpm_session.specs.Entities.{IsAuthority, with_session, Claim, authorized as authorized_by}
 
 -- ---- the evidence of a command that is authorized
 
@@ -32,11 +32,6 @@ pub authorized : (s : Option Session) (e : Entity) (code : CommandCode) (names :
     authorize s e code names params counter auths ≡ Ok tt
     → (x : Evidence) × (evidence_of s e code names params counter auths ≡ Ok x) × (check_evidence e x ≡ Ok tt)
 authorized s e code names params counter auths met = both_met (evidence_of s e code names params counter auths) (check_evidence e) met
-
--- the first of some sessions, and the others
-pub nonempty : (auths : List Auth) (a : Auth) → 0 < length auths → a ≡ get_or auths 0 a → (others : List Auth) × (auths ≡ a ∷ others)
-nonempty [] a some at = absurd (omega (arith, some))
-nonempty (b ∷ more) a some at = (more, ap (λ (x : Auth). x ∷ more) (sym at))
 
 -- ---- the session of the reply
 
@@ -85,6 +80,12 @@ pub authorize_refused : (s : Option Session) (e : Entity) (code : CommandCode) (
     (a : Auth) (others : List Auth) (refusal : ℕ) → Err refusal ≡ check_loaded a.session s
     → authorize s e code names params counter (a ∷ others) ≡ Err refusal
 authorize_refused s e code names params counter a others refusal is = rw (← is) refl
+
+-- Where the first session names nobody, that is the first refusal.
+pub unnamed : (sessions : List (Option Session)) (c : Claim) (a : Auth) (others : List Auth) (refusal : ℕ) →
+    check_loaded a.session (loaded sessions a.session) ≡ Err refusal → authorized_by sessions c (a ∷ others) ≡ Err refusal
+unnamed sessions c a others refusal is =
+    authorize_refused (loaded sessions a.session) c.entity c.command c.names c.params c.update_counter a others refusal (sym is)
 
 evidence_is : (by : Authorizer) (s : Option Session) (e : Entity) (code : CommandCode) (names : List (List ℕ)) (params : List ℕ) (counter : ℕ) (a : Auth)
     (others : List Auth) (x : Evidence)

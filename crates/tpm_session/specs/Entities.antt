@@ -1,5 +1,6 @@
 -- What authorizes a command, as it is handed in and as the code has it.
-use Rattle.std.specs.Prelude.{◌≡◌, ℕ, ◌==◌, true, false, List, [], Option, IsSome, Result, Ok}
+use Rattle.std.specs.Prelude.{◌≡◌, ℕ, suc, ◌==◌, true, false, List, [], ◌∷◌, length, Option, None, Some, IsSome}
+use Rattle.std.specs.Prelude.{Result, Ok}
 use Rattle.tpm_types.specs.declared.tpms.Auth.{Auth}
 use Rattle.tpm_types.specs.declared.tpms.AuthReply.{AuthReply}
 use Rattle.tpm_types.specs.declared.command_code.CommandCode.{CommandCode}
@@ -9,6 +10,7 @@ use Rattle.tpm_model.specs.Entities as model
 use Rattle.tpm_model.specs.Authorization as authorization
 use Rattle.tpm_session.specs.declared.entity.Entity.{Entity}
 use Rattle.tpm_session.specs.declared.authorize.Authority.{Authority}
+use Rattle.tpm_session.specs.declared.authorize.Authorization.{Authorization}
 use Rattle.tpm_session.specs.declared.authorize.Authority.TheVariants as authorities
 use Rattle.tpm_session.specs.declared.entity.Entity.TheVariants as entities
 
@@ -23,6 +25,19 @@ abbrev pub IsAuthority : List (Option Session) → (handle : ℕ) → Authority 
 IsAuthority sessions handle authorities.Password = (handle == rs_pw) ≡ true
 IsAuthority sessions handle (authorities.Slot slot) =
     ((handle == rs_pw) ≡ false) × (slot ≡ slot_of handle) × IsSome (loaded sessions handle)
+
+-- A command with these sessions is authorized so: by the first of them, and by who that names among those that are
+-- loaded.
+pub record Authorizes (sessions : List (Option Session)) (auths : List Auth) (a : Authorization) : Type 0 where
+  pub others : List Auth
+  pub are : auths ≡ a.first.now ∷ others
+  pub count : a.count ≡ suc (length others)
+  pub by : IsAuthority sessions a.first.now.session a.by
+
+-- It is authorized so, or has no session.
+abbrev pub IsAuthorization : List (Option Session) → List Auth → Option Authorization → Type 0
+IsAuthorization sessions auths None = auths ≡ []
+IsAuthorization sessions auths (Some a) = Authorizes sessions auths a
 
 -- who that is, with the session as it is among these
 abbrev pub with_session : List (Option Session) → Authority → Result authorization.Authorizer ℕ

@@ -12,14 +12,15 @@ ghost use Rattle.tpm_model.specs.Authorization.{check_session as session_checked
 ghost use Rattle.tpm_model.specs.Authorization.{check_policy_allowed as allowed_checked, has_policy as policy_held};
 ghost use Rattle.tpm_model.specs.Authorization.{check_policy as policy_checked, check_entity as entity_checked};
 ghost use Rattle.tpm_model.specs.Authorization.{reply_auths};
-ghost use Rattle.tpm_session.specs.Entities.{entity_in, no_reply as no_reply_of, IsAuthority, Claim as ClaimOf};
+ghost use Rattle.tpm_session.specs.Entities.{entity_in, no_reply as no_reply_of, Claim as ClaimOf};
+ghost use Rattle.tpm_session.specs.Entities.{IsAuthority, Authorizes, IsAuthorization};
 ghost use Rattle.tpm_session.specs.Entities.{evidence_of, authorized, with_session};
 ghost use Rattle.tpm_session.specs.inner.Signing.{authorizer_in};
 
 use crate::entity::Entity;
-use crate::evidence::{Signed, check_evidence, no_reply, password_reply};
+use crate::evidence::{Answered, Signed, check_evidence, no_reply, password_reply};
 use crate::policy::differs;
-use crate::session::{NONCE_BYTES, Session};
+use crate::session::Session;
 use crate::sessions::{Sessions, slot_of};
 use std::marker::Model;
 use tpm_buffer::AuthRef;
@@ -37,6 +38,17 @@ pub enum Authority {
     Password,
     /// The session that is loaded in this slot, counted from 0.
     Slot(usize),
+}
+
+/// How a command is authorized: by its first session, and by who that names. `Sessions::authorization` finds it.
+#[derive(Clone, Copy)]
+pub struct Authorization<'a, 'b> {
+    /// The first session.
+    pub first: &'a AuthRef<'b>,
+    /// How many sessions there are.
+    pub count: usize,
+    /// Who the first names.
+    pub by: Authority,
 }
 
 /// A command by what its authorization is judged, beside its sessions.
@@ -189,9 +201,8 @@ fn check_entity(by: Option<&Session>, claim: &Claim<'_>) -> Result<(), u32>
 }
 
 impl Sessions {
-    /// Who a command's first session names: the password, or the session that is loaded; else
-    /// REFERENCE_S0 (Part 1, "Authorizations and Acknowledgments").
-    pub fn authority(&self, auth: &AuthRef<'_>) -> Result<Authority, u32>
+    // Who a session of a command names: the password, or the session that is loaded; else REFERENCE_S0.
+    fn authority(&self, auth: &AuthRef<'_>) -> Result<Authority, u32>
         ensures found { IfOk result (IsAuthority self.now auth.now.session) }
         ensures missing { IfErr result (λ code.
             loaded_checked auth.now.session (loaded self.now auth.now.session) ≡ Err code) }
@@ -207,6 +218,30 @@ impl Sessions {
         match self.in_slot(slot) {
             Some(found) if found.has_handle(session) => Ok(Authority::Slot(slot)),
             _ => Err(REFERENCE_S0),
+        }
+    }
+
+    /// How a command with these sessions is authorized, where it has any: by who the first of them names, the password,
+    /// or the session that is loaded; else REFERENCE_S0 (Part 1, "Authorizations and Acknowledgments").
+    #[tactic(auto, using(crate::proofs::Authorized::unnamed))]
+    pub fn authorization<'a, 'b>(
+        &self,
+        auths: &'a [AuthRef<'b>],
+    ) -> Result<Option<Authorization<'a, 'b>>, u32>
+        ensures found { IfOk result (IsAuthorization self.now auths.now) }
+        ensures missing { IfErr result (λ code.
+            (claim : ClaimOf) → authorized self.now claim auths.now ≡ Err code) }
+    {
+        match auths {
+            [] => Ok(None),
+            [first, ..] => {
+                let by = self.authority(first)?;
+                Ok(Some(Authorization {
+                    first,
+                    count: auths.len(),
+                    by,
+                }))
+            }
         }
     }
 
@@ -242,32 +277,26 @@ impl Sessions {
         requires { 0 < length auths.now }
         ensures { result ≡ authorized self.now claim.now auths.now }
     {
-        let first = &auths[0];
-        let by = self.authority(first)?;
-        self.authorize_by(by, first, auths.len(), claim)
+        match self.authorization(auths)? {
+            Some(how) => self.authorize_by(&how, claim),
+            None => unreachable!(),
+        }
     }
 
-    /// As `authorize`, where this is who the first of so many sessions names: of the others it
-    /// matters only whether there are any.
-    pub fn authorize_by(
-        &self,
-        by: Authority,
-        auth: &AuthRef<'_>,
-        count: usize,
-        claim: &Claim<'_>,
-    ) -> Result<(), u32>
-        ensures { (others : List Auth) →
-            IsAuthority self.now auth.now.session by →
-            count ≡ suc (length others) →
-            result ≡ authorized self.now claim.now (auth.now ∷ others) }
+    /// As `authorize`, where this is how the command's sessions authorize it: of the others it matters only whether
+    /// there are any.
+    pub fn authorize_by(&self, how: &Authorization<'_, '_>, claim: &Claim<'_>) -> Result<(), u32>
+        ensures { (auths : List Auth) →
+            Authorizes self.now auths how.now →
+            result ≡ authorized self.now claim.now auths }
     {
-        let by = self.session_of(by)?;
-        check_session(by, auth, count)?;
+        let by = self.session_of(how.by)?;
+        check_session(by, how.first, how.count)?;
         check_entity(by, claim)?;
-        check_evidence(by, self.hashed(), auth, claim)
+        check_evidence(by, self.hashed(), how.first, claim)
     }
 
-    /// The session of the reply to a command that this authorized, before it rolls: a password is
+    /// The session of the reply to a command that was authorized so, before it rolls: a password is
     /// answered with continueSession alone, a session with its next nonce, the command's attributes
     /// and its HMAC over the reply's parameters. The HMAC is empty where the command's could be.
     /// The entity is that of the command, or as it is after the command with the same authorization
@@ -275,31 +304,29 @@ impl Sessions {
     /// attributes and no HMAC.
     pub fn reply_auth<'a>(
         &'a self,
-        by: Authority,
-        auth: &'a AuthRef<'a>,
+        how: &'a Authorization<'a, 'a>,
         entity: &'a Entity<'a>,
-        command: CommandCode,
-        params: &[u8],
-        nonce: &[u8; NONCE_BYTES],
+        answered: &Answered<'_>,
     ) -> AuthReply
-        ensures answer { (claim : ClaimOf) (others : List Auth) (x : Evidence) →
-            IsAuthority self.now auth.now.session by →
-            claim.command ≡ command →
+        ensures answer { (claim : ClaimOf) (auths : List Auth) (x : Evidence) →
+            Authorizes self.now auths how.now →
+            claim.command ≡ answered.now.command →
             auth_value claim.entity ≡ auth_value (entity_in entity.now) →
             is_owner_entity claim.entity ≡ is_owner_entity (entity_in entity.now) →
-            evidence_of self.now claim (auth.now ∷ others) ≡ Ok x →
-            reply_auths x command params.now nonce.now ≡ result ∷ [] }
-        ensures unloaded { IsErr (with_session self.now by) → result ≡ no_reply_of }
+            evidence_of self.now claim auths ≡ Ok x →
+            reply_auths x answered.now.command answered.now.params.now answered.now.nonce.now
+            ≡ result ∷ [] }
+        ensures unloaded { IsErr (with_session self.now how.now.by) → result ≡ no_reply_of }
     {
-        match self.session_of(by) {
+        match self.session_of(how.by) {
             Ok(Some(session)) => {
                 let signed = Signed {
                     session,
                     hashed: self.hashed(),
                     follows: session.follows(entity),
-                    auth,
+                    auth: how.first,
                 };
-                signed.reply(command, params, nonce)
+                signed.reply(answered)
             }
             Ok(None) => password_reply(),
             Err(_) => no_reply(),

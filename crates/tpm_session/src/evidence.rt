@@ -51,6 +51,17 @@ impl Session {
     }
 }
 
+/// A command's answer, by what its session is made of.
+#[derive(Clone, Copy)]
+pub struct Answered<'a> {
+    /// The command's code.
+    pub command: CommandCode,
+    /// The reply's parameters, as they are sent.
+    pub params: &'a [u8],
+    /// The bytes of which the session's next nonce is the first.
+    pub nonce: &'a [u8; NONCE_BYTES],
+}
+
 /// What the HMACs of a session are made of, for a command of an entity and for its reply.
 #[derive(Clone, Copy)]
 pub(crate) struct Signed<'a> {
@@ -124,30 +135,27 @@ impl Signed<'_> {
     }
 
     // The HMAC of a reply that has this nonce, or none.
-    fn reply_mac(&self, command: CommandCode, params: &[u8], nonce: &[u8]) -> AuthValue
-        ensures { result ≡ reply_hmac (signed_in self.now []) command params.now nonce.now }
+    fn reply_mac(&self, answered: &Answered<'_>, nonce: &[u8]) -> AuthValue
+        ensures { result ≡
+            reply_hmac (signed_in self.now []) answered.now.command answered.now.params.now nonce.now }
     {
         if self.needs_none() {
             return AuthValue::default();
         }
         let session = self.session;
-        let p_hash = rp_hash(session.hash, command, params);
+        let p_hash = rp_hash(session.hash, answered.command, answered.params);
         self.mac(p_hash.as_slice(), nonce, self.auth.nonce())
     }
 
     /// The session's part of the reply to the command that it authorized.
-    pub(crate) fn reply(
-        &self,
-        command: CommandCode,
-        params: &[u8],
-        nonce: &[u8; NONCE_BYTES],
-    ) -> AuthReply
+    pub(crate) fn reply(&self, answered: &Answered<'_>) -> AuthReply
         ensures { (p_hash : List ℕ) →
-            reply_auths (Evidence.ByMac (signed_in self.now p_hash)) command params.now nonce.now
+            reply_auths (Evidence.ByMac (signed_in self.now p_hash)) answered.now.command
+            answered.now.params.now answered.now.nonce.now
             ≡ result ∷ [] }
     {
-        let nonce = self.session.next_nonce(nonce);
-        let hmac = self.reply_mac(command, params, nonce.as_slice());
+        let nonce = self.session.next_nonce(answered.nonce);
+        let hmac = self.reply_mac(answered, nonce.as_slice());
         AuthReply {
             nonce,
             attrs: self.auth.attrs(),

@@ -8,9 +8,9 @@ mod policy;
 mod session;
 mod sessions;
 
-pub use authorize::{Authority, Claim};
+pub use authorize::{Authority, Authorization, Claim};
 pub use entity::Entity;
-pub use evidence::password_reply;
+pub use evidence::{Answered, password_reply};
 pub use policy::{Assertion, empty_policy, extend_policy};
 pub use session::{NONCE_BYTES, Session};
 pub use sessions::Sessions;

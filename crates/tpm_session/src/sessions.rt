@@ -17,15 +17,13 @@ ghost use Rattle.tpm_model.specs.Policies.{policy_digest as digest_of};
 ghost use Rattle.tpm_pcr.specs.Registers.{value_in, composite as composite_of, registers_after};
 ghost use Rattle.tpm_model.specs.Changes.{changes};
 ghost use Rattle.tpm_model.specs.Sessions as model;
-ghost use Rattle.tpm_types.specs.declared.tpms.Auth.{Auth};
-ghost use Rattle.tpm_types.specs.Tpma.{continues};
 ghost use Rattle.tpm_types.specs.declared.handle_sets.BindHandle.TheVariants as binds;
 ghost use Rattle.tpm_session.specs.Answers.{started_reply};
-ghost use Rattle.tpm_session.specs.Entities.{IsAuthority};
+ghost use Rattle.tpm_session.specs.Entities.{Authorizes};
 ghost use Rattle.tpm_session.specs.Policies.{for_policy, as_assertion};
 ghost use Rattle.tpm_session.specs.inner.Asserting.{after_command, asserting, restarted, with_slot};
 
-use crate::authorize::Authority;
+use crate::authorize::{Authority, Authorization};
 use crate::policy::Assertion;
 use crate::session::{NONCE_BYTES, Session, first_of};
 use std::marker::Model;
@@ -203,20 +201,18 @@ impl Sessions {
         Ok(())
     }
 
-    /// After a command that this authorized. The nonce of a session is then the first of these bytes,
+    /// After a command that was authorized so. The nonce of a session is then the first of these bytes,
     /// and its policy begins again; where continueSession is clear, its slot is freed (Part 1,
     /// "Session-Based Authorizations"). A password leaves the sessions as they are.
-    pub fn roll(&mut self, by: Authority, nonce: &[u8; NONCE_BYTES], keep: bool)
-        ensures { (o : Origin) (h : History) (c : Command) (r : Reply) (a : Auth)
-            (others : List Auth) →
-            c.auths.items ≡ a ∷ others →
-            IsAuthority self.old a.session by →
-            continues a.attrs ≡ keep →
+    pub fn roll(&mut self, how: &Authorization<'_, '_>, nonce: &[u8; NONCE_BYTES])
+        ensures { (o : Origin) (h : History) (c : Command) (r : Reply) →
+            Authorizes self.old c.auths.items how.now →
             needs_authorization (code_for c.body) ≡ true →
             self.old ≡ sessions_at o h →
             self.new ≡ sessions_at o (Accepted c r nonce.now ∷ h) }
     {
-        match by {
+        let keep = how.first.attrs().continues();
+        match how.by {
             Authority::Slot(slot) if slot < SLOTS => {
                 roll(&mut self.slots[slot], nonce, keep, &mut self.hashed)
             }

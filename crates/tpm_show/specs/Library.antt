@@ -4,15 +4,13 @@ use Rattle.std.specs.Prelude.{ℕ, ◌*◌, ◌+◌, true, List, [], length, dro
 use Rattle.std.specs.Prelude.{false, Result, Ok, Err, nat_le, if◌then◌else◌}
 use Rattle.tpm_wire.specs.declared.refusal.Refusal.{Refusal}
 use Rattle.tpm_wire.specs.Buffers.{Layout, any_number, numbered}
-use Rattle.tpm_wire.specs.Layout.Form.{done, field, area, list}
+use Rattle.tpm_wire.specs.Layout.Form.{done, field, list}
 use Rattle.tpm_wire.specs.Layout.{raw, remaining, either}
 use Rattle.tpm_wire.specs.Reading.{read_all}
-use Rattle.tpm_wire.specs.ResponseCodes.{rc_authsize}
-use Rattle.tpm_wire.specs.Spelling.{spelling}
 use Rattle.tpm_types.specs.declared.tpms.Auth.{Auth}
 use Rattle.tpm_types.specs.declared.tpms.AuthReply.{AuthReply}
-use Rattle.tpm_types.specs.Tpms.{auth_command, auth_response}
-use Rattle.tpm_buffer.specs.Commands.{is_tag, authorization_size}
+use Rattle.tpm_types.specs.Tpms.{auth_response}
+use Rattle.tpm_buffer.specs.Commands.{is_tag, authorization}
 use Rattle.tpm_buffer.specs.Responses.{parameter_size}
 use Rattle.tpm_show.specs.declared.frame_header.FrameHeader.{FrameHeader}
 use Rattle.tpm_show.specs.CommandNames.{Listed, command_of}
@@ -33,16 +31,6 @@ behind_whole bytes h =
 
 -- ---- a command
 
--- the area of sessions where the tag is TPM_ST_SESSIONS: at most three, to its end
-unfoldable pub command_sessions : Layout (List Auth)
-command_sessions = list 3 true (λ before. numbered (0x900 + 0x100 * length before) auth_command)
-
-unfoldable pub sessions_area : (tag : ℕ) → Layout (List Auth)
-sessions_area tag = either (tag == 0x8002)
-    (field (λ auths. length (spelling command_sessions auths)) authorization_size
-    (λ n. area n rc_authsize command_sessions))
-    (done [])
-
 pub record CommandAreas : Type 0 where
   pub handles : List ℕ
   pub auths : List Auth
@@ -51,7 +39,7 @@ pub record CommandAreas : Type 0 where
 unfoldable pub command_areas : (handles tag : ℕ) → Layout CommandAreas
 command_areas handles tag =
     field (λ a. a.handles) (any_handles handles) (λ hs.
-    field (λ a. a.auths) (sessions_area tag) (λ auths.
+    field (λ a. a.auths) (authorization tag) (λ auths.
     field (λ a. a.params) remaining (λ params.
     done (record { handles = hs; auths = auths; params = params }))))
 

@@ -1,5 +1,6 @@
 -- What `show --pcap` prints: what went over a simulator's port, one after the other (this profile).
-use Rattle.std.specs.Prelude.{◌≡◌, ℕ, ◌+◌, List, [], ◌∷◌, ◌++◌, codes, Some}
+use Rattle.std.specs.Prelude.{◌≡◌, ◌⊎◌, ◌≤◌, ℕ, ◌+◌, List, [], ◌∷◌, ◌++◌, length, codes, Option, Some, OnSome}
+use Rattle.std.specs.Io.KnownBytes.{Consumes, IsAtEnd}
 use Rattle.tpm_pcap.specs.declared.entry.Reason.TheVariants.{CutShort, Fragment, SentAgain, OutOfOrder, NoMessage}
 use Rattle.tpm_pcap.specs.declared.entry.Reason.TheVariants.{Malformed, UnknownLink, Unfinished}
 use Rattle.tpm_pcap.specs.declared.entry.Reason.{Reason}
@@ -80,3 +81,16 @@ TellsTraffic how port (Entries (first ∷ others)) status text = TellsEntries (s
 -- For the bytes of a file, and the port of the simulator, this is the status and what is printed.
 abbrev pub TellsPackets : (how : Telling) → (port : ℕ) → List ℕ → Status → List ℕ → Type 0
 TellsPackets how port bytes status text = TellsTraffic how port (traffic_in port bytes) status text
+
+-- 2^30
+abbrev pub most_packets : ℕ
+most_packets = 1073741824
+
+-- This holds of the bytes of a file that were read, which are so many at most; and these are all, where the file tells
+-- its bytes, or so many, or this holds whatever comes behind them.
+pub record OfReadUpTo (most-read : ℕ) (old new : Option (List ℕ)) (Holds : List ℕ → Type 0) : Type 0 where
+  pub bytes : List ℕ
+  pub read : Consumes old new bytes
+  pub most : length bytes ≤ most-read
+  pub holds : Holds bytes
+  pub whole : OnSome old (IsAtEnd new) ⊎ ((length bytes ≡ most-read) ⊎ ((more : List ℕ) → Holds (bytes ++ more)))

@@ -4,18 +4,17 @@ ghost use Rattle.std.specs.Prelude.{◌≡◌, ◌<◌, ◌^◌, IfSome, Some, l
 ghost use Rattle.tpm_wire.specs.Buffers.{TakesAs, TakesNumbered};
 ghost use Rattle.tpm_wire.specs.Reading.{read_all};
 ghost use Rattle.tpm_show.specs.inner.CommandNames.{listed_as};
-ghost use Rattle.tpm_show.specs.Library.{any_handles, behind_whole, command_sessions, sessions_area, command_areas};
+ghost use Rattle.tpm_show.specs.Library.{any_handles, behind_whole, command_areas};
 ghost use Rattle.tpm_show.specs.Library.{behind_handles, command_areas_of, library_command, library_response};
 ghost use Rattle.tpm_show.specs.Library.{response_areas, response_areas_of, response_sessions};
 
 use crate::command_names::{Listed, command_of};
 use crate::frame_header::FrameHeader;
-use crate::sessions::{HasSessions, Session};
+use crate::sessions::{HasSessions, SessionParts};
 use arrayvec::ArrayVec;
 use std::marker::Model;
-use tpm_buffer::{NO_SESSIONS, SESSIONS, take_authorization_size, take_parameter_size};
-use tpm_types::{Auth, AuthReply};
-use tpm_wire::response_code::{AUTHSIZE, SIZE};
+use tpm_buffer::{AuthRef, NO_SESSIONS, SESSIONS, take_authorization, take_parameter_size};
+use tpm_types::AuthReply;
 use tpm_wire::{Cursor, Refusal, read_list, take_rest};
 
 /// The handles of a command or of a response.
@@ -54,7 +53,7 @@ fn take_handles(cursor: &mut Cursor<'_>, count: u8) -> Result<Handles, Refusal>
 #[derive(Drop)]
 pub(crate) struct CommandAreas<'a> {
     pub(crate) handles: Handles,
-    auths: ArrayVec<Auth, 3>,
+    auths: ArrayVec<AuthRef<'a>, 3>,
     pub(crate) params: &'a [u8],
 }
 
@@ -80,38 +79,12 @@ impl HasSessions for CommandAreas<'_> {
         self.auths.len()
     }
 
-    fn session(&self, index: usize) -> Option<Session<'_>> {
+    fn session(&self, index: usize) -> Option<SessionParts<'_>> {
         let Some(auth) = self.auths.as_slice().get(index) else {
             return None;
         };
-        Some(Session::of_command(auth))
+        Some(SessionParts::of_command(auth))
     }
-}
-
-#[tactic(auto, unfolding(crate::specs::Library::command_sessions))]
-fn take_command_sessions(cursor: &mut Cursor<'_>) -> Result<ArrayVec<Auth, 3>, Refusal>
-    ensures { TakesNumbered (λ v. v.items) command_sessions cursor.old cursor.new result }
-{
-    take_rest(cursor, 3, 0x900)
-}
-
-#[tactic(auto, unfolding(crate::specs::Library::sessions_area))]
-fn take_sessions_area(cursor: &mut Cursor<'_>, tag: u16) -> Result<ArrayVec<Auth, 3>, Refusal>
-    ensures { TakesNumbered (λ v. v.items) (sessions_area tag) cursor.old cursor.new result }
-{
-    if tag != SESSIONS {
-        return Ok(ArrayVec::new());
-    }
-    cursor.number(0);
-    let size = take_authorization_size(cursor)? as usize;
-    let behind = cursor.enter(size)?;
-    let auths = take_command_sessions(cursor)?;
-    cursor.number(0);
-    if cursor.left() > 0 {
-        return Err(cursor.refusal(AUTHSIZE));
-    }
-    cursor.leave(behind)?;
-    Ok(auths)
 }
 
 #[tactic(auto, unfolding(crate::specs::Library::command_areas))]
@@ -124,7 +97,7 @@ fn take_command_areas<'a>(
     ensures { TakesNumbered (λ a. a) (command_areas handles tag) cursor.old cursor.new result }
 {
     let handles = take_handles(cursor, handles)?;
-    let auths = take_sessions_area(cursor, tag)?;
+    let auths = take_authorization(cursor, tag)?;
     cursor.number(0);
     let params = cursor.remaining();
     Ok(CommandAreas {
@@ -140,12 +113,7 @@ fn read_command_areas(rest: &[u8], handles: u8, tag: u16) -> Result<CommandAreas
 {
     let mut cursor = Cursor::new(rest);
     let areas = take_command_areas(&mut cursor, handles, tag)?;
-    if cursor.left() > 0 {
-        return Err(Refusal {
-            code: SIZE,
-            at: cursor.at(),
-        });
-    }
+    cursor.end()?;
     Ok(areas)
 }
 
@@ -205,11 +173,11 @@ impl HasSessions for ResponseAreas<'_> {
         self.auths.len()
     }
 
-    fn session(&self, index: usize) -> Option<Session<'_>> {
+    fn session(&self, index: usize) -> Option<SessionParts<'_>> {
         let Some(auth) = self.auths.as_slice().get(index) else {
             return None;
         };
-        Some(Session::of_reply(auth))
+        Some(SessionParts::of_reply(auth))
     }
 }
 
@@ -266,12 +234,7 @@ fn read_response_areas(rest: &[u8], handles: u8, tag: u16) -> Result<ResponseAre
 {
     let mut cursor = Cursor::new(rest);
     let areas = take_response_areas(&mut cursor, handles, tag)?;
-    if cursor.left() > 0 {
-        return Err(Refusal {
-            code: SIZE,
-            at: cursor.at(),
-        });
-    }
+    cursor.end()?;
     Ok(areas)
 }
 

@@ -1,14 +1,16 @@
 //! The subcommand `show` of the packets of a network.
 
-ghost use Rattle.std.specs.Prelude.{◌≡◌, ◌++◌, ◌+◌, ◌^◌, ◌<◌, ℕ, List, IfOk, OnOk, string_bytes};
+ghost use Rattle.std.specs.Prelude.{◌≡◌, ◌++◌, ◌+◌, ◌^◌, ◌<◌, ◌≤◌, ℕ, List, length, IfOk, IsErrOf, OnOk};
+ghost use Rattle.std.specs.Prelude.{string_bytes};
 ghost use Rattle.std.specs.Io.KnownBytes.{Appends};
 ghost use Rattle.tpm_pcap.specs.Entries.{entry_as, entries_as};
-ghost use Rattle.tpm_pcap.specs.Files.{Entries};
+ghost use Rattle.tpm_pcap.specs.Files.{Entries, left_told};
+ghost use Rattle.tpm_output.specs.declared.fault.ToolFault.TheVariants.{InputTooLong};
 ghost use Rattle.tpm_output.specs.Faults.{FailsByMemoryOrWrite};
-ghost use Rattle.tpm_output.specs.InputLines.{AddedTo};
-ghost use Rattle.tpm_show.specs.Capture.{start};
-ghost use Rattle.tpm_show.specs.Packets.{awaited_past, reason_text, TellsEntries, TellsPackets, TellsTraffic};
-ghost use Rattle.tpm_show.specs.inner.PacketsTold.{TellsOne};
+ghost use Rattle.tpm_output.specs.InputLines.{AddedTo, CountsRead};
+ghost use Rattle.tpm_show.specs.Packets.{awaited_past, most_packets, OfReadUpTo, reason_text, TellsPackets};
+ghost use Rattle.tpm_show.specs.Packets.{TellsTraffic};
+ghost use Rattle.tpm_show.specs.inner.PacketsTold.{TellsMany, TellsOne};
 
 use crate::capture::Capture;
 use crate::capture_frames::Awaited;
@@ -20,9 +22,17 @@ use std::alloc::Global;
 use std::io::Write;
 use tpm_output::answer::write;
 use tpm_output::fault::ToolFault;
+use tpm_output::reads::read_up_to;
 use tpm_output::status::Status;
 use tpm_output::text::Pushed;
-use tpm_pcap::{Entry, Reason, Traffic, traffic_in};
+use tpm_pcap::{Entry, FileHead, HEAD, PacketFile, Reason, read_head};
+use tpm_wire::Source;
+
+/// How many bytes of a file are read at most.
+const MOST_PACKETS: usize = 1_073_741_824;
+
+/// How many bytes are asked for at a time.
+const PIECE: usize = 4096;
 
 // ---- a packet that is not told
 
@@ -101,50 +111,74 @@ fn print_entry<W: Write>(
     write(out, &text)
 }
 
-// Prints what is told of all that went over the port.
+// Prints what is told of these, one after the other.
 fn print_entries<W: Write>(
     alloc: Global,
-    how: Telling,
+    capture: &mut Capture,
     entries: &[Entry],
     out: &mut W,
-) -> Result<Status, ToolFault>
-    ensures ok { IfOk result (λ status. (text : List ℕ)
-        × TellsEntries (start how) (entries_as entries.now) status text
-        × Appends (W.contents out.old) (W.contents out.new) text) }
+) -> Result<(), ToolFault>
+    requires number { capture.old.number + length entries.now < 2 ^ 64 }
+    requires connection { capture.old.passage.connection + length entries.now < 2 ^ 64 }
+    ensures ok { OnOk result (TellsMany (entries_as entries.now) capture.old capture.new
+        (Appends (W.contents out.old) (W.contents out.new))) }
     ensures err { FailsByMemoryOrWrite result }
 {
-    let mut capture = Capture::new(how);
     for entry in entries {
-        print_entry(alloc, &mut capture, entry, out)?;
+        print_entry(alloc, capture, entry, out)?;
     }
-    Ok(capture.status)
-}
-
-// The same, or that nothing went over it.
-fn print_traffic<W: Write>(
-    alloc: Global,
-    how: Telling,
-    port: u16,
-    entries: &[Entry],
-    out: &mut W,
-) -> Result<Status, ToolFault>
-    ensures ok { IfOk result (λ status. (text : List ℕ)
-        × TellsTraffic how port (Entries (entries_as entries.now)) status text
-        × Appends (W.contents out.old) (W.contents out.new) text) }
-    ensures err { FailsByMemoryOrWrite result }
-{
-    if entries.is_empty() {
-        return print_remark(alloc, how.json, Remark::NoPacket(port), out);
-    }
-    print_entries(alloc, how, entries, out)
+    Ok(())
 }
 
 // ---- a file
 
+// Prints what is told of the packets that come, of which no more bytes are read than so many, or that nothing went over
+// the port.
+fn print_packets<R: Source, W: Write>(
+    alloc: Global,
+    input: &mut R,
+    out: &mut W,
+    port: u16,
+    how: Telling,
+    mut file: PacketFile,
+    most: usize,
+) -> Result<Status, ToolFault>
+    requires few { file.reader.packet + length file.held ≤ 25 }
+    requires most { most ≤ most_packets }
+    ensures failures { CountsRead (R.failed input.old) (R.failed input.new) result }
+    ensures ok { IfOk result (λ status. (text : List ℕ)
+        × OfReadUpTo most (R.coming input.old) (R.coming input.new) (λ bytes.
+        TellsTraffic how port (Entries (left_told file bytes)) status text)
+        × Appends (W.contents out.old) (W.contents out.new) text) }
+    ensures short { IsErrOf result InputTooLong → ⊥ }
+{
+    let mut capture = Capture::new(how);
+    let mut entries = Vec::new(alloc);
+    let mut piece = [0; PIECE];
+    let mut left = most;
+    let mut silent = true;
+    loop {
+        let room = left.min(PIECE);
+        let count = input.read(&mut piece[..room])?;
+        let more = file.take(alloc, &piece[..count], &mut entries)?;
+        print_entries(alloc, &mut capture, entries.as_slice(), out)?;
+        silent = silent && entries.is_empty();
+        if !more {
+            break;
+        }
+        entries.clear();
+        left -= count;
+    }
+    if silent {
+        return print_remark(alloc, how.json, Remark::NoPacket(port), out);
+    }
+    Ok(capture.status)
+}
+
 /// Prints what `show` prints of each frame that went over this port of a TPM simulator, or what `show --fields` prints,
 /// or an object of JSON in a line.
 ///
-/// The bytes are those of a file of libpcap or of pcapng (`tpm_pcap::traffic_in`). Each frame is told as `show_lines`
+/// The bytes are those of a file of libpcap or of pcapng (`tpm_pcap::read_head`). Each frame is told as `show_lines`
 /// tells that of a line with its mark, in the order in which the frames came, with their numbers from 1. A reply
 /// belongs to the command before it on the same connection. Behind the header stands the line
 /// `packet N time S connection C`: the packet in which the frame ends, by its number in the file, when that was
@@ -165,25 +199,38 @@ fn print_traffic<W: Write>(
 ///
 /// The status is `Refused` where a frame was refused, a packet is not told, or the file is at fault, and else `Done`.
 ///
-/// Where a request for memory is refused the answer is `Memory`, and where the writer fails `Write`. What was written
-/// before is then left open.
-pub fn show_packets<W: Write>(
+/// The frames are told as they come: no more is held than a piece, a packet's block and what has come of a message. At
+/// most 2^30 bytes are read, and behind a block that is malformed none.
+///
+/// Where a request for memory is refused the answer is `Memory`, where a read fails `Read`, and where the writer fails
+/// `Write`. What was written before is then left open, and a failed read isn't tried again.
+pub fn show_packets<R: Source, W: Write>(
     alloc: Global,
+    input: &mut R,
     out: &mut W,
-    file: &[u8],
     port: u16,
     how: Telling,
 ) -> Result<Status, ToolFault>
+    ensures failures { CountsRead (R.failed input.old) (R.failed input.new) result }
     ensures ok { IfOk result (λ status. (text : List ℕ)
-        × TellsPackets how port file.now status text
+        × OfReadUpTo most_packets (R.coming input.old) (R.coming input.new) (λ bytes.
+        TellsPackets how port bytes status text)
         × Appends (W.contents out.old) (W.contents out.new) text) }
-    ensures err { FailsByMemoryOrWrite result }
+    ensures short { IsErrOf result InputTooLong → ⊥ }
 {
-    match traffic_in(alloc, file, port)? {
-        Traffic::NoCapture => print_remark(alloc, how.json, Remark::NoCapture, out),
-        Traffic::OtherLink(number) => {
+    let head = read_up_to(alloc, input, HEAD)?;
+    match read_head(alloc, head.as_slice(), port)? {
+        FileHead::NoCapture => print_remark(alloc, how.json, Remark::NoCapture, out),
+        FileHead::OtherLink(number) => {
             print_remark(alloc, how.json, Remark::OtherLink(number), out)
-        },
-        Traffic::Entries(entries) => print_traffic(alloc, how, port, entries.as_slice(), out),
+        }
+        FileHead::Packets(file) => {
+            let most = if head.len() < HEAD {
+                0
+            } else {
+                MOST_PACKETS - HEAD
+            };
+            print_packets(alloc, input, out, port, how, file, most)
+        }
     }
 }

@@ -15,11 +15,11 @@ use crate::handle_names::handle_name;
 use crate::piece::{How, LINE_END, Piece, Shape, Value, in_line, says};
 use crate::teller::{Teller, tell_pieces};
 use std::marker::Model;
-use tpm_buffer::{Areas, ReplyAreas};
+use tpm_buffer::{Areas, AuthRef, ReplyAreas};
 use tpm_output::named::Named;
 use tpm_output::names;
 use tpm_output::text::Pushed;
-use tpm_types::{Auth, AuthReply};
+use tpm_types::AuthReply;
 
 // The bits of TPMA_SESSION (Part 2, 8.4) by their numbers.
 const ATTRIBUTES: [Named; 6] = names![
@@ -31,16 +31,16 @@ const ATTRIBUTES: [Named; 6] = names![
     7 "audit",
 ];
 
-/// A session of a command, or of a reply, where it has no handle.
+/// What a command has of a session, or a reply, where it has no handle.
 #[derive(Drop)]
-pub(crate) struct Session<'a> {
+pub(crate) struct SessionParts<'a> {
     handle: Option<u32>,
     nonce: &'a [u8],
     attributes: u8,
     hmac: &'a [u8],
 }
 
-impl<'a> Model for Session<'a> {
+impl<'a> Model for SessionParts<'a> {
     ghost use Rattle.tpm_show.specs.Sessions.{ShownSession};
 
     ghost Value = { ShownSession };
@@ -53,19 +53,19 @@ impl<'a> Model for Session<'a> {
     } };
 }
 
-impl<'a> Session<'a> {
+impl<'a> SessionParts<'a> {
     ghost use Rattle.std.specs.Prelude.{◌≡◌};
     ghost use Rattle.tpm_show.specs.Sessions.{of_command, of_reply};
 
     /// A session of a command.
-    pub(crate) fn of_command(auth: &'a Auth) -> Self
+    pub(crate) fn of_command(auth: &AuthRef<'a>) -> Self
         ensures { result ≡ of_command auth.now }
     {
-        Session {
-            handle: Some(auth.session.number()),
-            nonce: auth.nonce.as_slice(),
-            attributes: auth.attrs.number(),
-            hmac: auth.hmac.as_slice(),
+        SessionParts {
+            handle: Some(auth.session().number()),
+            nonce: auth.nonce(),
+            attributes: auth.attrs().number(),
+            hmac: auth.hmac(),
         }
     }
 
@@ -73,7 +73,7 @@ impl<'a> Session<'a> {
     pub(crate) fn of_reply(auth: &'a AuthReply) -> Self
         ensures { result ≡ of_reply auth.now }
     {
-        Session {
+        SessionParts {
             handle: None,
             nonce: auth.nonce.as_slice(),
             attributes: auth.attrs.number(),
@@ -92,7 +92,7 @@ pub(crate) trait HasSessions {
         ensures { result ≡ length (sessions self.now) };
 
     /// The session of this index, counted from 0, where there is one.
-    fn session(&self, index: usize) -> Option<Session<'_>>
+    fn session(&self, index: usize) -> Option<SessionParts<'_>>
         ensures { result ≡ slice_get (sessions self.now) index };
 }
 
@@ -106,18 +106,11 @@ impl HasSessions for Areas<'_> {
         self.auth_count()
     }
 
-    fn session(&self, index: usize) -> Option<Session<'_>> {
+    fn session(&self, index: usize) -> Option<SessionParts<'_>> {
         let Some(auth) = self.auth(index) else {
             return None;
         };
-        let handle = auth.session().number();
-        let attributes = auth.attrs().number();
-        Some(Session {
-            handle: Some(handle),
-            nonce: auth.nonce(),
-            attributes,
-            hmac: auth.hmac(),
-        })
+        Some(SessionParts::of_command(&auth))
     }
 }
 
@@ -131,12 +124,12 @@ impl HasSessions for ReplyAreas<'_> {
         self.auth_count()
     }
 
-    fn session(&self, index: usize) -> Option<Session<'_>> {
+    fn session(&self, index: usize) -> Option<SessionParts<'_>> {
         let Some(auth) = self.auth(index) else {
             return None;
         };
         let attributes = auth.attrs().number();
-        Some(Session {
+        Some(SessionParts {
             handle: None,
             nonce: auth.nonce(),
             attributes,
@@ -226,7 +219,7 @@ fn end_session<T: Teller>(teller: &mut T, hmac: &[u8]) -> Pushed
 
 // Tells a session by its number.
 #[tactic(auto, using(crate::proofs::Pieces::pieces), unfolding(crate::specs::Sessions::session_told))]
-fn tell_session<T: Teller>(teller: &mut T, number: usize, session: &Session<'_>) -> Pushed
+fn tell_session<T: Teller>(teller: &mut T, number: usize, session: &SessionParts<'_>) -> Pushed
     ensures { OnOk result (T.told teller.new
         ≡ T.told teller.old ++ flat_map T.marks (session_told number session.now)) }
 {

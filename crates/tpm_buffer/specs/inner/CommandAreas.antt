@@ -1,5 +1,5 @@
 -- What the readers of a command's areas hand on.
-use Rattle.std.specs.Prelude.{◌≡◌, ℕ, ◌+◌, ◌<◌, ◌≤◌, List, ◌++◌, length, drop, Result, Ok, Err}
+use Rattle.std.specs.Prelude.{◌≡◌, ℕ, ◌<◌, List, length, Result, Ok, Err}
 use Rattle.tpm_wire.specs.declared.refusal.Refusal.{Refusal}
 use Rattle.tpm_wire.specs.ResponseCodes.{rc_authsize}
 use Rattle.tpm_wire.specs.Token.{Here}
@@ -14,11 +14,6 @@ areas_view c = (checked c, params_here c)
 -- the cut at a place, by what was read before it
 abbrev pub cut_of : Header → List ℕ → List Auth → Here → Cut
 cut_of h hs auths here = record { header = h; handles = hs; auths = auths; params = here.rest; params_at = here.at }
-
--- a place in these bytes, in an area of them
-pub record LiesIn (bytes : List ℕ) (h : Here) : Type 0 where
-  pub rest : drop h.at bytes ≡ h.rest ++ drop (h.at + length h.rest) bytes
-  pub within : h.at + length h.rest ≤ length bytes
 
 -- The authorization area ends at the old place, and what comes after it is next.
 abbrev pub LeavesAuthorization : Here → Here → Here → Result (Unit {0}) Refusal → Type 0

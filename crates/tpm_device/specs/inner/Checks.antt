@@ -1,7 +1,6 @@
 -- What the checks of a command find, before its parameters.
-use Rattle.std.specs.Prelude.{◌≡◌, ℕ, Bool, true, false, List, [], ◌∷◌, Option, None, Some, Result, Ok, Err}
+use Rattle.std.specs.Prelude.{◌≡◌, ℕ, Bool, true, false, List, [], ◌∷◌, Option, None, Result, Ok, Err}
 use Rattle.tpm_wire.specs.Reading.{◌>>=◌}
-use Rattle.tpm_types.specs.declared.tpms.Auth.{Auth}
 use Rattle.tpm_types.specs.Handles.{is_owner}
 use Rattle.tpm_types.specs.declared.command_code.CommandCode.{CommandCode}
 use Rattle.tpm_commands.specs.Handles.{first, needs_authorization}
@@ -12,8 +11,7 @@ use Rattle.tpm_model.specs.Entities.{entity_of, names_of}
 use Rattle.tpm_model.specs.Sessions.{Session}
 use Rattle.tpm_model.specs.Authorization.{Evidence}
 use Rattle.tpm_model.specs.Answers.{Presented, evidence_in}
-use Rattle.tpm_session.specs.Entities.{IsAuthority, Claim, authorized}
-use Rattle.tpm_device.specs.declared.authorization.Authorization.{Authorization}
+use Rattle.tpm_session.specs.Entities.{Claim, authorized}
 
 -- three slots, none with a session
 abbrev pub none_loaded : List (Option Session)
@@ -44,18 +42,7 @@ owner_authorizes codes.NvDefineSpace = true
 owner_authorizes codes.NvUndefineSpace = true
 owner_authorizes _ = false
 
--- A command that was read is authorized so, among these sessions: by its first session, and by who that names there.
-pub record Authorizes (sessions : List (Option Session)) (x : Cut) (a : Authorization) : Type 0 where
-  pub others : List Auth
-  pub auths : x.auths ≡ a.session ∷ others
-  pub by : IsAuthority sessions a.session.session a.by
-
--- It is authorized so, or has no session.
-abbrev pub IsAuthorization : List (Option Session) → Cut → Option Authorization → Type 0
-IsAuthorization sessions x None = x.auths ≡ []
-IsAuthorization sessions x (Some a) = Authorizes sessions x a
-
--- What a command that was read is beside that: its handles are of their kinds, and it has sessions
+-- What a command that was read is beside how it is authorized: its handles are of their kinds, and it has sessions
 -- only where one authorizes it.
 pub record IsAdmitted (x : Cut) : Type 0 where
   pub owner : owner_authorizes x.header.code ≡ true → is_owner (first x.handles) ≡ true
@@ -79,11 +66,6 @@ claim_of p x = record {
 -- all checks of its sessions
 abbrev pub sessions_checked : Present → Cut → Result (Unit {0}) ℕ
 sessions_checked p x = authorized p.sessions (claim_of p x) x.auths
-
--- How it is authorized is found, or the checks of its sessions fail.
-abbrev pub IsFound : Present → Cut → Result (Option Authorization) ℕ → Type 0
-IsFound p x (Ok a) = IsAuthorization p.sessions x a
-IsFound p x (Err code) = sessions_checked p x ≡ Err code
 
 -- A command has evidence, with which all checks before the parameters are met.
 pub record IsPermittedBy (p : Present) (r : Result Presented ℕ) (x : Cut) : Type 0 where

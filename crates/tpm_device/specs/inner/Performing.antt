@@ -6,16 +6,17 @@ use Rattle.tpm_model.specs.Steps.{History, Origin}
 use Rattle.tpm_model.specs.Authorization.{Evidence}
 use Rattle.tpm_model.specs.Answers.{Presented, Done, with_outcome}
 use Rattle.tpm_model.specs.Premises.{code_in}
-use Rattle.tpm_device.specs.declared.authorization.Authorization.{Authorization}
+use Rattle.tpm_session.specs.declared.authorize.Authorization.{Authorization}
+use Rattle.tpm_session.specs.Entities.{IsAuthorization}
 use Rattle.tpm_device.specs.declared.device.Device.{Device}
 use Rattle.tpm_device.specs.Stands.{holds, Stands}
-use Rattle.tpm_device.specs.inner.Checks.{presented_with, evidence_for, HasEvidence, IsAuthorization, IsAdmitted}
+use Rattle.tpm_device.specs.inner.Checks.{presented_with, evidence_for, HasEvidence, IsAdmitted}
 use Rattle.tpm_device.specs.inner.Answers.{given, told}
 
 -- What a command that was read has before it is performed: it is authorized so, its sessions give
 -- evidence, and the buffer is empty.
 pub record MayBePerformed (d : Device) (x : Cut) (by : Option Authorization) (out : ArrayVec ℕ) : Type 0 where
-  pub authorized : IsAuthorization d.sessions x by
+  pub authorized : IsAuthorization d.sessions x.auths by
   pub admitted : IsAdmitted x
   pub evidence : HasEvidence (holds d) x
   pub empty : length out.items ≡ 0

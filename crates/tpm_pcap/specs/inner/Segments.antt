@@ -1,5 +1,5 @@
 -- Segments, as the code holds them.
-use Rattle.std.specs.Prelude.{◌<◌}
+use Rattle.std.specs.Prelude.{◌<◌, length}
 use Rattle.tpm_pcap.specs.declared.segment.Carried.{Carried as RustCarried}
 use Rattle.tpm_pcap.specs.declared.segment.Ends.{Ends as RustEnds}
 use Rattle.tpm_pcap.specs.declared.segment.Segment.{Segment as RustSegment}
@@ -28,10 +28,10 @@ carried_as (rust.Segment s) = OnPort (segment_as s)
 abbrev pub ends_as : RustEnds → Ends
 ends_as e = record { source = e.source.now; target = e.target.now }
 
--- A packet of the internet has fewer than 2^16 bytes behind its header.
+-- A packet of the internet has fewer than 2^16 bytes behind its header, and so many are captured of it.
 abbrev pub IsSmall : Carried → Type 0
 IsSmall Other = Unit {0}
 IsSmall Lacking = Unit {0}
 IsSmall Fragment = Unit {0}
 IsSmall UnknownLink = Unit {0}
-IsSmall (OnPort s) = s.size < 65536
+IsSmall (OnPort s) = (s.size < 65536) × (length s.payload < 65536)

@@ -5,8 +5,8 @@ use Rattle.tpm_pcap.specs.Talks.{Talk}
 
 abbrev pub talk_as : RustTalk → Talk
 talk_as t = record {
-  client = t.client.now;
-  simulator = t.simulator.now;
+  client = t.client.items;
+  simulator = t.simulator.items;
   port = t.port;
   to = way_as t.to;
   back = way_as t.back;

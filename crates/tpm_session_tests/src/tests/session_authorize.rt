@@ -7,8 +7,8 @@ use crate::tests::session_scripts::{Bench, run};
 use crate::tests::session_texts::{bytes, number};
 use std::process::Abort;
 use std::test::*;
-use tpm_buffer::{Areas, AuthRef, areas};
-use tpm_session::{Claim, Entity, NONCE_BYTES};
+use tpm_buffer::{Areas, areas};
+use tpm_session::{Answered, Claim, Entity, NONCE_BYTES};
 use tpm_testing::word;
 use tpm_types::Name;
 
@@ -44,10 +44,9 @@ pub fn follows(rt: &impl Abort, bench: &Bench, rest: &str) -> bool {
 // What the checks of the sessions of a command answer, 0 for a yes. Each handle has this Name, and
 // the update counter is 0.
 fn judged(bench: &Bench, entity: Entity<'_>, name: &[Name; 2], cut: &Areas<'_>) -> u32 {
-    let Some(first) = cut.auth(0) else {
+    if cut.auth_count() == 0 {
         return u32::MAX;
-    };
-    let sessions = &bench.sessions;
+    }
     let claim = Claim {
         entity,
         command: cut.code(),
@@ -55,11 +54,7 @@ fn judged(bench: &Bench, entity: Entity<'_>, name: &[Name; 2], cut: &Areas<'_>) 
         params: cut.params(),
         update_counter: 0,
     };
-    let answer = match cut.auth(1) {
-        None => sessions.authorize(&[first], &claim),
-        Some(second) => sessions.authorize(&[first, second], &claim),
-    };
-    match answer {
+    match bench.sessions.authorize(cut.auths(), &claim) {
         Ok(()) => 0,
         Err(code) => code,
     }
@@ -93,11 +88,18 @@ pub fn replies(rt: &impl Abort, bench: &Bench, rest: &str) -> bool {
     let hmac = bytes(rt, word(&mut rest));
     let command = bytes(rt, rest);
     let cut = areas(command.as_slice()).ok().expect(rt, "areas");
-    let auth = cut.auth(0).expect(rt, "a session");
-    let by = bench.sessions.authority(&auth).ok().expect(rt, "loaded");
-    let found = bench
+    let how = bench
         .sessions
-        .reply_auth(by, &auth, &entity, cut.code(), params.as_slice(), &NEXT);
+        .authorization(cut.auths())
+        .ok()
+        .expect(rt, "loaded")
+        .expect(rt, "a session");
+    let answered = Answered {
+        command: cut.code(),
+        params: params.as_slice(),
+        nonce: &NEXT,
+    };
+    let found = bench.sessions.reply_auth(&how, &entity, &answered);
     found.nonce.as_slice() == nonce.as_slice()
         && found.attrs.number() as u32 == attrs
         && found.hmac.as_slice() == hmac.as_slice()

@@ -3,10 +3,10 @@
 use crate::tests::session_texts::{bytes, number};
 use std::process::Abort;
 use std::test::*;
-use tpm_buffer::decode_command;
+use tpm_buffer::{areas, decode_command};
 use tpm_commands::CommandBody;
 use tpm_pcr::Registers;
-use tpm_session::{Authority, NONCE_BYTES, Sessions};
+use tpm_session::{NONCE_BYTES, Sessions};
 use tpm_testing::word;
 use tpm_types::{PcrOrNull, PolicyHandle, SessionHandle};
 
@@ -105,11 +105,19 @@ pub fn extend(rt: &impl Abort, registers: &mut Registers, text: &str) -> bool {
 
 /// After a command that the session authorized, with a nonce of zeros. Whether it was loaded.
 pub fn rolls(sessions: &mut Sessions, session: SessionHandle, keep: bool) -> bool {
-    if sessions.get(session).is_none() {
+    // a command on register 0 with an empty nonce and an empty HMAC
+    let [a, b, c, d] = session.number().to_be_bytes();
+    let command = [
+        0x80, 2, 0, 0, 0, 27, 0, 0, 1, 0x82, 0, 0, 0, 0, 0, 0, 0, 9, a, b, c, d, 0, 0, keep as u8,
+        0, 0,
+    ];
+    let Ok(cut) = areas(&command) else {
         return false;
+    };
+    match sessions.authorization(cut.auths()) {
+        Ok(Some(how)) => sessions.roll(&how, &[0; NONCE_BYTES]),
+        _ => return false,
     }
-    let slot = session.number() as usize % 0x0100_0000;
-    sessions.roll(Authority::Slot(slot), &[0; NONCE_BYTES], keep);
     true
 }
 

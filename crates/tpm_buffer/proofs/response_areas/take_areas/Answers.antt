@@ -1,7 +1,7 @@
 use Rattle.std.proofs.Common.{length, ap, arith, sym, subst}
 use Rattle.tpm_wire.specs.Token.{Here}
 use Rattle.tpm_buffer.specs.Responses.{response_front, response_code}
-use Rattle.tpm_buffer.specs.ResponseAreas.{IsPlaceIn}
+use Rattle.tpm_buffer.specs.inner.ResponseAreas.{IsPlaceIn}
 use Rattle.tpm_buffer.proofs.Places.{stands_first, stands_behind}
 use Rattle.tpm_buffer.proofs.response_areas.take_areas.Goals as goal
 

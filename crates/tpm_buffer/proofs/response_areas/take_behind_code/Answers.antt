@@ -1,7 +1,7 @@
 use Rattle.std.proofs.Common.{◌≡◌, ◌+◌, ◌*◌, length, arith, rules}
 use Rattle.tpm_commands.specs.Replies.{reply_handles, handle_list}
 use Rattle.tpm_buffer.specs.Responses.{raw_without_sessions}
-use Rattle.tpm_buffer.specs.ResponseAreas.{IsPlaceIn}
+use Rattle.tpm_buffer.specs.inner.ResponseAreas.{IsPlaceIn}
 use Rattle.tpm_buffer.proofs.Places.{stands_behind}
 use Rattle.tpm_buffer.proofs.response_areas.take_behind_code.Goals as goal
 

@@ -1,23 +1,13 @@
-use Rattle.std.proofs.Common.{◌≡◌, ◌+◌, ◌<◌, length, take, drop, ap, sym, ◌∙◌, refl, arith}
-use Rattle.std.proofs.lemmas.List.{length-map}
+use Rattle.std.proofs.Common.{◌≡◌, ◌+◌, length, take, drop, ap, sym, ◌∙◌, refl, arith}
 use Rattle.tpm_wire.specs.Buffers.{Place}
 use Rattle.tpm_wire.specs.Layout.{raw}
 use Rattle.tpm_wire.proofs.Loop.{at_place}
 use Rattle.tpm_buffer.specs.Responses.{parameter_size, raw_with_sessions}
-use Rattle.tpm_buffer.specs.ResponseAreas.{IsPlaceIn, session_at, sessions_at}
+use Rattle.tpm_buffer.specs.inner.ResponseAreas.{IsPlaceIn}
 use Rattle.tpm_buffer.proofs.Places.{any_mark, stands_behind, raw_is}
 use Rattle.tpm_buffer.proofs.ReadSessions.{place_before_sessions, has_params}
 use Rattle.tpm_commands.specs.Replies.{handle_list}
 use Rattle.tpm_buffer.proofs.response_areas.take_with_sessions.Goals as goal
-
-pub take_sessions-requires : goal.take_sessions-requires
-take_sessions-requires c =
-    let bytes = c.args.bytes.now in
-    let before = c.take_parameter_size.new.cursor in
-    let size_is = at_place parameter_size c.number.new.self c.args.cursor.now.here 0 0 _ c.number.ensures refl c.in_ok-params_size.ensures.reads.0 in
-    let stands = stands_behind bytes 0 parameter_size c.args.cursor.now.here before.here c.in_ok-params_size.field-0 c.requires.stands size_is in
-    stands_behind bytes before.number (raw c.in_ok-params_size.field-0) before.here c.bytes.new.self.here
-    c.in_ok-bytes.field-0.now stands c.in_ok-bytes.ensures.0
 
 pub invariant_of-result : goal.invariant_of-result
 invariant_of-result c =
@@ -28,9 +18,7 @@ invariant_of-result c =
     stands_behind bytes 0 parameter_size c.args.cursor.now.here before.here c.in_ok-params_size.field-0
     c.requires.stands size_is in
     let four : length c.args.cursor.now.here.rest ≡ 4 + length before.here.rest =
-    ap (λ (p : Place). length p.here.rest) (sym c.number.ensures) ∙ c.in_ok-params_size.ensures.length in
-    let sessions = sessions_at bytes c.in_ok-sessions.sessions.items in
-    let some : 0 < length sessions = omega (arith, c.in_ok-sessions.ensures.some, length-map c.in_ok-sessions.sessions.items (session_at bytes)) in (
+    ap (λ (p : Place). length p.here.rest) (sym c.number.ensures) ∙ c.in_ok-params_size.ensures.length in (
       c.requires.short,
       omega (arith, c.at-params_at.ensures, stands.whole, c.in_ok-params_size.ensures.fits),
       omega (
@@ -40,9 +28,8 @@ invariant_of-result c =
         c.requires.stands.whole,
         four,
         c.requires.place,
-        place_before_sessions (handle_list c.args.handle) sessions some,
+        place_before_sessions (handle_list c.args.handle) c.in_ok-auths.auths.items c.in_ok-auths.ensures.some,
       ),
-      c.in_ok-sessions.ensures.sessions,
     )
 
 pub returns-clause-reads : goal.returns-clause-reads
@@ -57,7 +44,7 @@ returns-clause-reads c =
     let params : c.in_ok-bytes.field-0.now ≡ take size (drop c.at-params_at.result bytes) =
     raw_is before.number size before.here c.bytes.new.self.here c.in_ok-bytes.field-0.now c.in_ok-bytes.ensures.0
     ∙ ap (take size) (stands.rest ∙ ap (λ n. drop n bytes) (sym c.at-params_at.ensures)) in
-    rw (size_is, raw_bytes, c.in_ok-sessions.ensures.reads, params) refl
+    rw (size_is, raw_bytes, c.in_ok-auths.ensures.reads, params) refl
 
 pub returns-clause-place : goal.returns-clause-place
 returns-clause-place c =

@@ -1,22 +1,17 @@
 use Rattle.std.proofs.Common.{◌≡◌, ◌++◌, ◌≤◌, ◌+◌, ◌-◌, [], true, length}
-use Rattle.std.specs.List.{All}
 use Rattle.tpm_wire.specs.Spelling.{joined_all}
 use Rattle.tpm_wire.specs.Reading.{read, entries}
 use Rattle.tpm_wire.specs.ResponseCodes.{of_session}
 use Rattle.tpm_types.specs.Tpms.{auth_response}
-use Rattle.tpm_buffer.specs.ResponseAreas.{IsPlaceIn, IsSession, sessions_at}
 use Rattle.tpm_buffer.proofs.response_sessions.take_further_sessions.Given as goal
 
-abbrev pub invariant-loop-positions : goal.invariant-loop-positions
-invariant-loop-positions l = record {
-  so_far : entries (2 - length l.positions.items) (sessions_at l.bytes l.positions.items) true
-      (λ before. read (of_session (2 + length before)) auth_response) l.cursor.here
+abbrev pub invariant-loop-auths : goal.invariant-loop-auths
+invariant-loop-auths l = record {
+  so_far : entries (2 - length l.auths.items) l.auths.items true (λ before. read (of_session (2 + length before)) auth_response) l.cursor.here
       ≡ entries 2 [] true (λ before. read (of_session (2 + length before)) auth_response) l.fn.cursor.here;
-  stands : IsPlaceIn l.bytes l.cursor.here;
-  sessions : All (IsSession l.bytes) l.positions.items;
-  spelled : l.fn.cursor.here.rest ≡ joined_all auth_response (sessions_at l.bytes l.positions.items) ++ l.cursor.here.rest;
-  few : length l.positions.items ≤ 2;
+  spelled : l.fn.cursor.here.rest ≡ joined_all auth_response l.auths.items ++ l.cursor.here.rest;
+  few : length l.auths.items ≤ 2;
 }
 
-abbrev pub decreases-loop-positions : goal.decreases-loop-positions
-decreases-loop-positions l = 2 - length l.positions.items
+abbrev pub decreases-loop-auths : goal.decreases-loop-auths
+decreases-loop-auths l = 2 - length l.auths.items

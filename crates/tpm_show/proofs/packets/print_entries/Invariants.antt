@@ -6,5 +6,5 @@ use Rattle.tpm_show.proofs.packets.print_entries.Given as goal
 
 -- those so far are told
 abbrev pub invariant-loop-entry : goal.invariant-loop-entry
-invariant-loop-entry g l = TellsMany (entries_as (take l.entry-index l.entries)) l.initial.capture l.capture
+invariant-loop-entry g l = TellsMany (entries_as (take l.entry-index l.entries)) l.fn.capture l.capture
     (Appends (g.W.Write.contents l.fn.out) (g.W.Write.contents l.out))

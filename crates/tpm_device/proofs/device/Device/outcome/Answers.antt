@@ -2,6 +2,7 @@ use Rattle.std.proofs.Common.{rules, ◌≡◌, ℕ, Err, refl, sym, subst}
 use Rattle.arrayvec.specs.ArrayVec.{ArrayVec}
 use Rattle.tpm_device.specs.declared.device.Device.{Device}
 use Rattle.tpm_device.specs.Stands.{holds}
+use Rattle.tpm_device.specs.inner.Checks.{claim_of}
 use Rattle.tpm_device.specs.inner.Performing.{MayBePerformed}
 use Rattle.tpm_device.proofs.Passing.{from_begin, sessions_permit, sessions_refuse, outcome_refuses, some_code, some_codes}
 use Rattle.tpm_device.proofs.device.Device.outcome.Goals as goal
@@ -10,7 +11,7 @@ pub performed_alone-requires : goal.performed_alone-requires
 performed_alone-requires c =
     let by = sessions_permit (holds c.args.self.now) c.args.bytes.now c.in_ok-areas.areas c.in_ok-areas.ensures.reads (sym c.in_ok-check_sessions.ensures) in
     record {
-      authorized = c.in_ok-by.ensures;
+      authorized = rw (← c.auths.ensures) c.in_ok-by.ensures.found;
       admitted = c.in_ok-areas.ensures.admitted;
       evidence = (by.evidence, by.gives);
       empty = c.requires.empty;
@@ -22,7 +23,7 @@ performed_by_action-requires c =
     subst (λ (d : Device). MayBePerformed d c.in_ok-areas.areas c.in_ok-by.by c.performed_alone.new.out) (sym c.in-None.ensures.none.0)
     (subst (λ (o : ArrayVec ℕ). MayBePerformed c.args.self.now c.in_ok-areas.areas c.in_ok-by.by o) (sym c.in-None.ensures.none.1)
     (record {
-      authorized = c.in_ok-by.ensures;
+      authorized = rw (← c.auths.ensures) c.in_ok-by.ensures.found;
       admitted = c.in_ok-areas.ensures.admitted;
       evidence = (by.evidence, by.gives);
       empty = c.requires.empty;
@@ -75,7 +76,8 @@ returns-in_err-by c =
     let p = holds c.args.self.now in
     let code = c.in_err-by.field-0.0 in
     let is : c.from_residual-in_err-by.result ≡ Err code = search rules in
-    let refused = sessions_refuse p c.args.bytes.now c.in_ok-areas.areas code c.in_ok-areas.ensures.reads c.in_err-by.ensures in
+    let refused = sessions_refuse p c.args.bytes.now c.in_ok-areas.areas code c.in_ok-areas.ensures.reads
+    (rw (← c.auths.ensures) (c.in_err-by.ensures.missing (claim_of p c.in_ok-areas.areas))) in
     record {
       answer = λ o h st. rw (is, refused) refl;
       stands = λ o h st. rw refused st;

@@ -28,12 +28,12 @@ pub returns-in-Password-clause-bytes : goal.returns-in-Password-clause-bytes
 returns-in-Password-clause-bytes c = λ body bare p e alike gives.
     let own = rw c.in-Some.is at c.requires.own in
     c.put_bare_passed.ensures ∙ same_bytes body _ bare ∙ ap (λ (auths : List AuthReply). reply_bytes (record { body = body; auths = auths }))
-    (sym (password_replies p c.args.areas.now c.in-Some.how.session own.others e c.args.areas.now.header.code (reply_params body) c.args.nonce.now
-    (rw c.in-Password.is at own.by) own.auths gives))
+    (sym (password_replies p c.args.areas.now c.in-Some.how.first.now own.others e c.args.areas.now.header.code (reply_params body) c.args.nonce.now
+    (rw c.in-Password.is at own.by) own.are gives))
 
 pub returns-in-Slot-clause-bytes : goal.returns-in-Slot-clause-bytes
 returns-in-Slot-clause-bytes c = λ body bare p e alike gives.
     let own = rw c.in-Some.is at c.requires.own in
-    c.put_bare_signed.ensures.bytes p e (alike c.in-Some.how.session own.others own.auths) gives ∙ same_bytes body _ bare
+    c.put_bare_signed.ensures.bytes p e (alike c.in-Some.how.first.now own.others own.are) gives ∙ same_bytes body _ bare
     ∙ ap (λ (params : List ℕ). reply_bytes (record { body = body; auths = reply_auths e c.args.areas.now.header.code params c.args.nonce.now }))
     (bare_params body bare)

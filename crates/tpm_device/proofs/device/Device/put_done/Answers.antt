@@ -20,8 +20,8 @@ pub returns-in-Password-clause-bytes : goal.returns-in-Password-clause-bytes
 returns-in-Password-clause-bytes c = λ p e alike gives.
     let own = rw c.in-Some.is at c.requires.own in
     c.put_passed.ensures ∙ ap (λ (auths : List AuthReply). reply_bytes (record { body = c.args.body.now; auths = auths }))
-    (sym (password_replies p c.args.areas.now c.in-Some.how.session own.others e c.args.areas.now.header.code (reply_params c.args.body.now)
-    c.args.nonce.now (rw c.in-Password.is at own.by) own.auths gives))
+    (sym (password_replies p c.args.areas.now c.in-Some.how.first.now own.others e c.args.areas.now.header.code (reply_params c.args.body.now)
+    c.args.nonce.now (rw c.in-Password.is at own.by) own.are gives))
 
 pub returns-in-Password-clause-done : goal.returns-in-Password-clause-done
 returns-in-Password-clause-done c = ap code_in c.put_passed.ensures ∙ reply_is_done c.args.body.now _
@@ -29,7 +29,7 @@ returns-in-Password-clause-done c = ap code_in c.put_passed.ensures ∙ reply_is
 pub returns-in-Slot-clause-bytes : goal.returns-in-Slot-clause-bytes
 returns-in-Slot-clause-bytes c = λ p e alike gives.
     let own = rw c.in-Some.is at c.requires.own in
-    c.put_signed.ensures.bytes p e (alike c.in-Some.how.session own.others own.auths) gives
+    c.put_signed.ensures.bytes p e (alike c.in-Some.how.first.now own.others own.are) gives
 
 pub returns-in-Slot-clause-done : goal.returns-in-Slot-clause-done
 returns-in-Slot-clause-done c = c.put_signed.ensures.done

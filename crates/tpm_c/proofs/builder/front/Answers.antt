@@ -4,7 +4,7 @@ use Rattle.tpm_buffer.specs.Commands.{command}
 use Rattle.tpm_buffer.proofs.Staged.{of_before}
 use Rattle.tpm_c.specs.inner.Builds.{HasFront}
 use Rattle.tpm_c.proofs.Judging.{front_of}
-use Rattle.tpm_c.proofs.builder.look.Goals as goal
+use Rattle.tpm_c.proofs.builder.front.Goals as goal
 
 pub returns-in-Ok-clause-front : goal.returns-in-Ok-clause-front
 returns-in-Ok-clause-front c =
