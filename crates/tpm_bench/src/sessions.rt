@@ -1,12 +1,11 @@
 //! Sessions.
 
-ghost use Rattle.std.specs.Prelude.{◌≡◌, ◌<◌, ◌≤◌, length, is_ok};
-ghost use Rattle.tpm_session.specs.Entities.{authorized};
+ghost use Rattle.std.specs.Prelude.{◌<◌, ◌≤◌, length};
 
-use tpm_buffer::{AuthRef, areas};
+use tpm_buffer::{Areas, areas};
 use tpm_commands::StartAuth;
 use tpm_session::{Claim, Entity, Sessions};
-use tpm_types::{Alg, BindHandle, Nonce, SessionType, SymDef, name_of_handle};
+use tpm_types::{Alg, BindHandle, Name, Nonce, SessionType, SymDef, name_of_handle};
 
 /// Starts an HMAC session of SHA-256 in slot 0, which is bound to none and whose nonceTPM is 32
 /// zeros, and has it authorize the command so many times, which is one on a register. It answers
@@ -28,14 +27,7 @@ pub extern "C" fn tpm_bench_authorize(bytes: &[u8], times: u32) -> u32
     let names = [name_of_handle(*register)];
     let mut authorized = 0;
     for counter in 0..times {
-        let claim = Claim {
-            entity: Entity::Register,
-            command: areas.code(),
-            names: &names,
-            params: areas.params(),
-            update_counter: counter,
-        };
-        if is_authorized(&sessions, areas.auths(), &claim) {
+        if is_authorized(&sessions, &areas, &names, counter) {
             authorized += 1;
         }
     }
@@ -55,12 +47,23 @@ fn started() -> Sessions {
     sessions
 }
 
-// Whether these sessions authorize the command. The update counter is another one each time, so that the compiler
-// cannot take one answer for all.
+// Whether a command of a register is authorized at this update counter. The counter is another one each time, so that
+// the compiler cannot take one answer for all.
 #[inline(never)]
-fn is_authorized(sessions: &Sessions, auths: &[AuthRef<'_>], claim: &Claim<'_>) -> bool
-    requires { 0 < length auths.now }
-    ensures { result ≡ is_ok (authorized sessions.now claim.now auths.now) }
+fn is_authorized<'a>(
+    sessions: &Sessions,
+    areas: &Areas<'a>,
+    names: &'a [Name],
+    counter: u32,
+) -> bool
+    requires { 0 < length areas.now.auths }
 {
-    sessions.authorize(auths, claim).is_ok()
+    let claim = Claim {
+        entity: Entity::Register,
+        command: areas.code(),
+        names,
+        params: areas.params(),
+        update_counter: counter,
+    };
+    sessions.authorize(areas.auths(), &claim).is_ok()
 }
