@@ -8,5 +8,5 @@ returns-in_default c = sym (slice_get-map of_command c.args.self.now.auths c.arg
 
 pub returns : goal.returns
 returns c =
-    rw (c.number-handle.ensures.value, c.session.ensures, c.nonce.ensures.value, c.number-attributes.ensures.value, c.attrs.ensures, c.hmac.ensures.value)
+    rw c.of_command.ensures
     (sym (slice_get-map of_command c.args.self.now.auths c.args.index ∙ ap (option_map of_command) (sym c.auth.ensures ∙ c.in-Some.is)))
