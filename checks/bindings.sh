@@ -550,8 +550,9 @@ verifies() {
         tells "$room/out" "$@" "$log" "$files.msg" "$signature" "$files.pem" "$nonce" "$selected" || return 1
         # Where no state is proved there are no authorities.
         grep -v -e '^Secure Boot' "$room/out" >"$room/said_of_it"
-        if [ "$wanted" -eq 0 ]; then cat "$room/signed/$quote.said"; else grep -v '^authority' "$room/signed/$quote.said"; fi |
-            cmp - "$room/said_of_it" || return 1
+        pattern='^authority'
+        [ "$wanted" -ne 0 ] || pattern='^$'
+        grep -v "$pattern" "$room/signed/$quote.said" | cmp - "$room/said_of_it" || return 1
         [ "$(grep -c '^Secure Boot' "$room/out")" -eq "$(grep -c '^bank' "$room/out")" ] || return 1
         for at in 20 60; do
             cp "$files.msg" "$room/changed.msg" && change_byte "$room/changed.msg" $at

@@ -163,7 +163,8 @@ def frames(size, stream):
 
 
 def said(verdict):
-    return {Kind.MATCHES: "matches", Kind.NONCE: "nonce differs", Kind.LACKS: f"lacks {verdict.bank} {verdict.register}",
+    return {Kind.MATCHES: "matches", Kind.NONCE: "nonce differs",
+            Kind.LACKS: f"lacks {verdict.bank} {verdict.register}",
             Kind.EMPTY: "selects nothing", Kind.DIFFERS: "digest differs",
             Kind.UNKNOWN: f"unknown {verdict.bank} {verdict.register} at {verdict.at}"}[verdict.kind]
 
