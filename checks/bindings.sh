@@ -547,8 +547,12 @@ signed_case() {
 verifies() {
     while read -r quote log files nonce selected; do
         signature=$room/signed/$quote.tpmt
-        in_place "$@" "$log" "$files.msg" "$signature" "$files.pem" "$nonce" "$selected" >"$room/out" || return 1
-        grep -v '^Secure Boot' "$room/out" | cmp - "$room/signed/$quote.said" || return 1
+        tells "$room/out" "$@" "$log" "$files.msg" "$signature" "$files.pem" "$nonce" "$selected" || return 1
+        # Where no state is proved there are no authorities.
+        grep -v -e '^Secure Boot' "$room/out" >"$room/said_of_it"
+        pattern='^authority'
+        [ "$wanted" -ne 0 ] || pattern='^$'
+        grep -v "$pattern" "$room/signed/$quote.said" | cmp - "$room/said_of_it" || return 1
         [ "$(grep -c '^Secure Boot' "$room/out")" -eq "$(grep -c '^bank' "$room/out")" ] || return 1
         for at in 20 60; do
             cp "$files.msg" "$room/changed.msg" && change_byte "$room/changed.msg" $at
@@ -577,9 +581,34 @@ other_key() {
     esac
 }
 
+# tells FILE WORD..: the program writes to the file what a quote vouches for, with status 0 where each bank proves
+# whether Secure Boot was on, and else with 1.
+tells() {
+    told=$1 && shift
+    wanted=0 found=0
+    in_place "$@" >"$told" || found=$?
+    ! grep -q -e '^Secure Boot unknown' -e '^Secure Boot not quoted' "$told" || wanted=1
+    [ "$found" -eq "$wanted" ] && grep -q '^bank' "$told"
+}
+
+# is_not_fooled WORD..: logs whose quote still matches, but with the prefixes of GRUB swapped, with variables called
+# authorities, or with separators called images, have no line that the true ones don't have.
+is_not_fooled() {
+    while read -r quote log files nonce selected; do
+        said="$room/signed/$quote.tpmt $files.pem $nonce $selected"
+        tells "$room/true" "$@" "$log" "$files.msg" $said || return 1
+        for forgery in swap relabel; do
+            python3 checks/quotes/verified.py --$forgery "$log" >"$room/forged.log" &&
+                tells "$room/forged" "$@" "$room/forged.log" "$files.msg" $said || return 1
+            ! grep -e '^authority' -e '^register 4' -e '^loader 8 "' "$room/forged" | grep -v -x -F -f "$room/true" ||
+                return 1
+        done
+    done <"$room/signed/cases"
+}
+
 # verified_by WORD..: the same of each quote, where they are made.
 verified_by() {
-    [ -s "$room/signed/cases" ] || make_signed && verifies "$@"
+    [ -s "$room/signed/cases" ] || make_signed && verifies "$@" && is_not_fooled "$@"
 }
 
 # change_byte FILE AT: another byte there.

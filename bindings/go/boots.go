@@ -26,8 +26,13 @@ const (
 	Unset BootState = C.TPM_SECURE_BOOT_UNSET // SecureBoot had no byte
 )
 
-// String says it in a word.
-func (s BootState) String() string { return answerName(C.uint32_t(s)) }
+// String says it in a word; zero is "unknown".
+func (s BootState) String() string {
+	if s == 0 {
+		return "unknown"
+	}
+	return answerName(C.uint32_t(s))
+}
 
 // A Boot is what a log tells of Secure Boot: its state, whether DMA protection was disabled, and how many bytes of the
 // log precede the records of PK, KEK, db and dbx, or 0 where one was not measured, and of each authority.

@@ -5,7 +5,10 @@ package vinjakwe
 */
 import "C"
 
-import "encoding/binary"
+import (
+	"encoding/binary"
+	"fmt"
+)
 
 // A Content is what the data of a record say: a VariableContent, TextContent, VersionContent, VersionGUID, Separator,
 // Locality, Image, Firmware, Tables, Tag, Partitions, Measurement or Evidence. Its bytes are lent from the data.
@@ -14,6 +17,14 @@ type Content interface{ isContent() }
 
 // A GUID, 16 bytes as they lie in memory.
 type GUID [16]byte
+
+// String is the GUID as text, as "8be4df61-93ca-11d2-aa0d-00e098032b8c": its first three numbers have the less
+// significant byte first in memory (UEFI Specification, "GUID and Time Formats").
+func (g GUID) String() string {
+	numbers := binary.LittleEndian
+	return fmt.Sprintf("%08x-%04x-%04x-%x-%x", numbers.Uint32(g[:]), numbers.Uint16(g[4:]), numbers.Uint16(g[6:]), g[8:10],
+		g[10:])
+}
 
 // A VariableContent is a variable, and what it holds.
 type VariableContent struct {

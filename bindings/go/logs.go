@@ -175,6 +175,8 @@ func wide(bytes []byte) string {
 type Part uint32
 
 const (
+	Nothing       Part = 0                       // of Vouched: nothing, not even the digest
+	DigestAlone   Part = 1                       // of Vouched: the digest alone, and nothing of the data
 	AllData       Part = C.TPM_MEASURED_DATA     // all of them
 	VariableValue Part = C.TPM_MEASURED_VARIABLE // the value of the variable that they are
 	BehindPrefix  Part = C.TPM_MEASURED_TEXT     // what stands behind a prefix that GRUB writes, as "kernel_cmdline: "
@@ -185,6 +187,10 @@ const (
 // String is its word, as tpmtool has it.
 func (p Part) String() string {
 	switch p {
+	case Nothing:
+		return "-"
+	case DigestAlone:
+		return "digest"
 	case AllData:
 		return "data"
 	case VariableValue:
@@ -211,25 +217,34 @@ func (e Event) Measured() map[Hash]Part {
 }
 
 // Vouched is what a quote vouches for in a record of a log that Check has compared with it: of each bank in which it
-// selects the record's register, the part of the data that this bank's digest is of, or Other, the digest alone and
-// nothing of the data. It never vouches for the type, and for nothing of a record of EV_NO_ACTION.
+// selects the record's register, the part of the data that this bank's digest is of, or DigestAlone. Of another bank it
+// is Nothing, as of a record of EV_NO_ACTION. It never vouches for the type.
 func (e Event) Vouched(attest *Attest) map[Hash]Part {
 	found := map[Hash]Part{}
 	selections := attest.Info[:len(attest.Info)-2-len(attest.Digest)]
 	for _, it := range e.Digests {
 		part := C.tpm_log_vouched(place(selections), size(selections), C.uint32_t(e.Register), C.uint32_t(e.Type),
 			place(e.Data), size(e.Data), C.uint16_t(it.Hash), place(it.Bytes), size(it.Bytes))
-		if part != C.TPM_LOG_DONE && part != C.TPM_QUOTE_NO_BANK {
+		if part == C.TPM_MEASURED_OTHER {
+			found[it.Hash] = DigestAlone
+		} else if part != C.TPM_LOG_DONE && part != C.TPM_QUOTE_NO_BANK {
 			found[it.Hash] = Part(part)
 		}
 	}
 	return found
 }
 
-// VouchedText is the Text where a quote vouches for it in this bank: where all the data were measured, or what stands
-// behind a prefix that GRUB writes, which is there in the text.
+// VouchedText is the text that was measured of the event's data, where a quote vouches for it in this bank: all of it,
+// or what stands behind a prefix that GRUB writes. The prefix is left out, since it is not measured: with another
+// before it a command of GRUB passes for the kernel's command line. So compare all texts of the register, in their
+// order.
 func (e Event) VouchedText(attest *Attest, hash Hash) (text string, is bool) {
-	if part, isVouched := e.Vouched(attest)[hash]; isVouched && (part == AllData || part == BehindPrefix) {
+	switch e.Vouched(attest)[hash] {
+	case AllData:
+		return e.Text()
+	case BehindPrefix:
+		// One blank ends each prefix.
+		_, e.Data, _ = bytes.Cut(e.Data, []byte(" "))
 		return e.Text()
 	}
 	return "", false
@@ -238,20 +253,20 @@ func (e Event) VouchedText(attest *Attest, hash Hash) (text string, is bool) {
 // VouchedVariable is the Variable where a quote vouches for its name and its value in this bank: where all the data
 // were measured, or all but a last byte that is not the variable's.
 func (e Event) VouchedVariable(attest *Attest, hash Hash) (found Variable, is bool) {
-	switch part, isVouched := e.Vouched(attest)[hash]; {
-	case isVouched && part == WithoutLast:
+	switch e.Vouched(attest)[hash] {
+	case WithoutLast:
 		e.Data = e.Data[:len(e.Data)-1]
 		return e.Variable()
-	case isVouched && part == AllData:
+	case AllData:
 		return e.Variable()
 	}
 	return found, false
 }
 
-// A Variable of the firmware: its vendor's GUID as it lies in memory, its name, in which a unit that is no UTF-16 is
-// U+FFFD, and its value, which is lent from the event's data.
+// A Variable of the firmware: its vendor's GUID, its name, in which a unit that is no UTF-16 is U+FFFD, and its value,
+// which is lent from the event's data.
 type Variable struct {
-	GUID  [16]byte
+	GUID  GUID
 	Name  string
 	Value []byte
 }
@@ -384,7 +399,7 @@ func (v Verdict) String() string {
 	case Signer:
 		return "signer differs"
 	case Unknown:
-		return "not allowed"
+		return "unknown"
 	case Unsigned:
 		return "not signed by the key"
 	}
@@ -399,8 +414,13 @@ type Selected struct {
 	At       uint32
 }
 
-// String is its bank and its number, as "sha256 7".
-func (s Selected) String() string { return fmt.Sprintf("%v %d", s.Bank, s.Register) }
+// String is its bank and its number, as "sha256 7", or "-" of none.
+func (s Selected) String() string {
+	if s == (Selected{}) {
+		return "-"
+	}
+	return fmt.Sprintf("%v %d", s.Bank, s.Register)
+}
 
 // How each TPMS_ATTEST begins: TPM_GENERATED_VALUE (Part 2, 6.2).
 var generated = []byte("\xffTCG")

@@ -311,8 +311,12 @@ func TestWhatIsVouchedOfEachRecord(t *testing.T) {
 			event, wanted := events.Event(), map[Hash]Part{}
 			for hash, part := range event.Measured() {
 				for _, entry := range attest.Selections {
-					if entry.Bank == hash && entry.Has(event.Register) && event.Type != 3 {
-						wanted[hash] = part
+					if entry.Bank != hash || !entry.Has(event.Register) || event.Type == 3 {
+						continue
+					}
+					wanted[hash] = part
+					if part == Other {
+						wanted[hash] = DigestAlone
 					}
 				}
 			}
@@ -320,6 +324,46 @@ func TestWhatIsVouchedOfEachRecord(t *testing.T) {
 				t.Errorf("%v in place of %v", found, wanted)
 			}
 		}
+	}
+}
+
+func TestNamesOfWhatIsVouched(t *testing.T) {
+	digest := [32]byte{}
+	event := Event{Register: 4, Type: 0x80000003, Digests: []Digest{{SHA256, digest[:], false}}, Data: []byte("path")}
+	attest, err := DecodeAttest(read(t, "quotes/ecc-sha256.msg"))
+	if err != nil {
+		t.Fatal(err)
+	}
+	if found := event.Vouched(attest); found[SHA256].String() != "digest" || found[SHA1].String() != "-" {
+		t.Error(found)
+	}
+	if found := event.Measured()[SHA256].String(); found != "other" {
+		t.Error(found)
+	}
+	event.Register = 8
+	if found := event.Vouched(attest)[SHA256]; found != Nothing || found.String() != "-" {
+		t.Error(found)
+	}
+}
+
+// EFI_GLOBAL_VARIABLE, as the UEFI Specification writes it and as the record of SecureBoot has it.
+func TestTextOfAGUID(t *testing.T) {
+	const global = "8be4df61-93ca-11d2-aa0d-00e098032b8c"
+	it := GUID{0x61, 0xdf, 0xe4, 0x8b, 0xca, 0x93, 0xd2, 0x11, 0xaa, 0x0d, 0x00, 0xe0, 0x98, 0x03, 0x2b, 0x8c}
+	if it.String() != global {
+		t.Error(it)
+	}
+	count := 0
+	for events := NewEvents(read(t, "quotes/17-ovmf-secureboot.log")); events.Next(); {
+		if found, is := events.Event().Variable(); is && found.Name == "SecureBoot" {
+			count++
+			if found.GUID.String() != global {
+				t.Error(found.GUID)
+			}
+		}
+	}
+	if count != 1 {
+		t.Error(count)
 	}
 }
 
@@ -332,15 +376,19 @@ func TestTextsAndVariablesThatAreVouched(t *testing.T) {
 		digest := sha256.Sum256([]byte(measured))
 		return Event{Register: 7, Type: kind, Digests: []Digest{{SHA256, digest[:], false}}, Data: []byte(data)}
 	}
-	line := "kernel_cmdline: quiet"
-	for measured, wanted := range map[string]bool{line: true, "quiet": true, "other": false, line[1:]: false} {
-		event := record(0xd, line, measured)
-		if text, is := event.VouchedText(attest, SHA256); is != wanted || is && text != line {
-			t.Error(measured, text, is)
+	line := "kernel_cmdline: quiet splash"
+	for _, it := range []struct{ data, measured, wanted string }{
+		{line, line, line}, {line, "quiet splash", "quiet splash"}, {line, "other", ""}, {line, line[1:], ""},
+		{"grub_cmd: quiet splash", "quiet splash", "quiet splash"}, {"grub_cmd quiet\x00", "quiet", "quiet"},
+		{"module_cmdline: quiet", "quiet", "quiet"}, {"grub_kernel_cmdline quiet", "quiet", "quiet"},
+	} {
+		event := record(0xd, it.data, it.measured)
+		if text, is := event.VouchedText(attest, SHA256); is != (it.wanted != "") || text != it.wanted {
+			t.Error(it, text, is)
 		}
 		event.Register = 8
 		if _, is := event.VouchedText(attest, SHA256); is {
-			t.Error(measured)
+			t.Error(it)
 		}
 	}
 	variable := strings.Repeat("\x00", 16) + "\x02" + strings.Repeat("\x00", 7) + "\x03" + strings.Repeat("\x00", 7) +
@@ -425,7 +473,7 @@ func TestWhatAMismatchSays(t *testing.T) {
 	for mismatch, wanted := range map[Mismatch]string{
 		{Verdict: Differs}: "digest differs", {Verdict: Nonce}: "nonce differs", {Verdict: Empty}: "selects nothing",
 		{Lacks, Selected{SHA1, 7, 0}}:      "selection lacks sha1 7",
-		{Unknown, Selected{SHA256, 4, 73}}: "not allowed sha256 4 at 73",
+		{Unknown, Selected{SHA256, 4, 73}}: "unknown sha256 4 at 73",
 		{Verdict: Unsigned}:                "not signed by the key",
 	} {
 		if found := mismatch.Error(); found != wanted {

@@ -163,9 +163,10 @@ def frames(size, stream):
 
 
 def said(verdict):
-    return {Kind.MATCHES: "matches", Kind.NONCE: "nonce differs", Kind.LACKS: f"lacks {verdict.hash} {verdict.pcr}",
+    return {Kind.MATCHES: "matches", Kind.NONCE: "nonce differs",
+            Kind.LACKS: f"lacks {verdict.bank} {verdict.register}",
             Kind.EMPTY: "selects nothing", Kind.DIFFERS: "digest differs",
-            Kind.UNKNOWN: f"unknown {verdict.hash} {verdict.pcr} at {verdict.at}"}[verdict.kind]
+            Kind.UNKNOWN: f"unknown {verdict.bank} {verdict.register} at {verdict.at}"}[verdict.kind]
 
 
 def attest(log, quote, nonce, require, hash, list=None):

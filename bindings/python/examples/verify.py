@@ -1,36 +1,40 @@
-"""verify.py LOG QUOTE SIGNATURE KEY NONCE REGISTERS: what booted on a machine, by which authority and with which
-command line, where a quote by this key vouches for it. SIGNATURE is as `tpm2_quote -s` writes it, and KEY in PEM."""
+"""verify.py LOG QUOTE SIGNATURE KEY NONCE REGISTERS: what booted, where a quote by this key vouches for it; status 0
+where each bank proves whether Secure Boot was on. SIGNATURE is as `tpm2_quote -s` writes it, and KEY in PEM."""
+import json
 import sys
-from pathlib import Path
 
 import vinjakwe
 
 
-def told(log, attest, bank, registers):
-    """What the quoted registers of a bank say, in lines, where the quote vouches for it."""
+def told(log, attest, bank, quoted):
+    """What the registers of a bank say, in lines, where the quote vouches for it, whatever types the log has."""
+    authorities, state = (), "not quoted"
     try:
-        yield f"Secure Boot {vinjakwe.secure_boot(log, bank).state.name.lower() if 7 in registers else 'not quoted'}"
+        if 7 in quoted:
+            boot = vinjakwe.secure_boot(log, bank)
+            authorities, state = boot.authorities, boot.state.name.lower()
     except vinjakwe.SecureBootFault as fault:
-        yield f"Secure Boot unknown {fault.kind}"
-    for it in vinjakwe.events(log):
-        name, digest = vinjakwe.event_type_name(it.type), it.digests.get(bank, b"").hex()
+        state = f"unknown {fault.kind}"
+    yield f"Secure Boot {state}"
+    for it in (it for it in vinjakwe.events(log) if bank in vinjakwe.vouched(it, attest)):
         variable, text = vinjakwe.vouched_variable(it, attest, bank), vinjakwe.vouched_text(it, attest, bank)
-        if name == "EV_EFI_BOOT_SERVICES_APPLICATION" and bank in vinjakwe.vouched(it, attest):
-            yield f"image {digest}"
-        elif name == "EV_EFI_VARIABLE_AUTHORITY" and variable:
-            yield f"authority {variable.name} {digest}"
-        elif name == "EV_IPL" and text:
-            yield f"loader {text}"
+        if it.at in authorities:
+            yield f"authority {json.dumps(variable.name if variable else '')} {it.digests[bank].hex()}"
+        elif it.register == 4 and vinjakwe.event_type_name(it.type) == "EV_EFI_BOOT_SERVICES_APPLICATION":
+            yield f"register 4 image {it.digests[bank].hex()}"
+        elif it.register == 8:
+            yield f"loader 8 {it.digests[bank].hex() if text is None else json.dumps(text)}"
 
 
 def main(log, quote, signature, key, nonce, registers):
-    log, quote, signature, key = (Path(name).read_bytes() for name in (log, quote, signature, key))
+    log, quote, signature, key = (open(name, "rb").read() for name in (log, quote, signature, key))
     try:
         attest = vinjakwe.verify(log, quote, signature, key, bytes.fromhex(nonce), registers)
     except ValueError as fault:
         return f"not to be believed: {fault}"
-    for bank, quoted in attest.selections:
-        print(f"bank {bank}", *told(log, attest, bank, quoted), sep="\n")
+    lines = [line for bank, quoted in attest.selections for line in (f"bank {bank}", *told(log, attest, bank, quoted))]
+    print(*lines, sep="\n")
+    return int(any(line.startswith(("Secure Boot unknown", "Secure Boot not quoted")) for line in lines))
 
 
 sys.exit(main(*sys.argv[1:]))

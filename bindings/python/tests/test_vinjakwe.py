@@ -303,6 +303,12 @@ class Quotes(unittest.TestCase):
             self.assertEqual(verdict, (v.Kind.LACKS, "sha384", 9, None))
             self.assertFalse(verdict)
 
+    def test_the_text_of_a_verdict(self):
+        for words, text in (((v.Kind.MATCHES,), "matches"), ((v.Kind.DIFFERS,), "digest differs"),
+                            ((v.Kind.NONCE,), "nonce differs"), ((v.Kind.LACKS, "sha1", 7), "selection lacks sha1 7"),
+                            ((v.Kind.UNKNOWN, "sha256", 4, 211), "unknown sha256 4 at 211")):
+            self.assertEqual(str(v.Verdict(*words)), text)
+
     def test_nothing_compared_is_no_success(self):
         no_register = bytes.fromhex("00000001000b03000000")
         for log, quote, nonce, selected, hash in quotes():
@@ -339,10 +345,14 @@ class Quotes(unittest.TestCase):
         def record(type, data, measured, register=7):
             return v.Event(1, 0, register, type, {"sha256": hashlib.sha256(measured).digest()}, data, ())
 
-        line = b"kernel_cmdline: quiet"
-        for measured, told in ((line, "kernel_cmdline: quiet"), (b"quiet", "kernel_cmdline: quiet"), (b"other", None),
-                               (line[:-1], None)):
-            self.assertEqual(v.vouched_text(record(0xD, line, measured), attest, "sha256"), told)
+        line = b"kernel_cmdline: quiet splash"
+        for data, measured, told in (
+            (line, line, line.decode()), (line, b"quiet splash", "quiet splash"), (line, b"other", None),
+            (line, line[:-1], None), (b"grub_cmd: quiet splash", b"quiet splash", "quiet splash"),
+            (b"grub_cmd quiet\0", b"quiet", "quiet"), (b"module_cmdline: quiet", b"quiet", "quiet"),
+            (b"grub_kernel_cmdline quiet", b"quiet", "quiet"),
+        ):
+            self.assertEqual(v.vouched_text(record(0xD, data, measured), attest, "sha256"), told)
         self.assertIsNone(v.vouched_text(record(0xD, line, line, 8), attest, "sha256"))
         self.assertIsNone(v.vouched_text(record(0xD, line, line), attest, "sha1"))
         name = "db".encode("utf-16-le")
@@ -463,7 +473,7 @@ class Faults(unittest.TestCase):
         for verdict, said in ((v.Verdict(v.Kind.DIFFERS), "digest differs"), (v.Verdict(v.Kind.NONCE), "nonce differs"),
                               (v.Verdict(v.Kind.LACKS, "sha1", 7), "selection lacks sha1 7"),
                               (v.Verdict(v.Kind.EMPTY), "selects nothing"),
-                              (v.Verdict(v.Kind.UNKNOWN, "sha256", 4, 73), "not allowed sha256 4 at 73"),
+                              (v.Verdict(v.Kind.UNKNOWN, "sha256", 4, 73), "unknown sha256 4 at 73"),
                               (v.Verdict(v.Kind.UNSIGNED), "not signed by the key")):
             self.assertEqual(str(v.Mismatch(verdict)), said)
 

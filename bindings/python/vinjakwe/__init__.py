@@ -1133,9 +1133,18 @@ def vouched(event: Event, attest: Attest) -> dict[str, str]:
 
 
 def vouched_text(event: Event, attest: Attest, bank: str) -> str | None:
-    """The text that the data of a record are, where the quote vouches for it in this bank: where all the data were
-    measured, or what stands behind a prefix that GRUB writes, which is there in the text."""
-    return text(event) if vouched(event, attest).get(bank) in ("data", "text") else None
+    """The text that was measured of a record's data, where the quote vouches for it in this bank: all of it, or what
+    stands behind a prefix that GRUB writes. The prefix is left out, since it is not measured: with another before it a
+    command of GRUB passes for the kernel's command line. So compare all texts of the register, in their order."""
+    part = vouched(event, attest).get(bank)
+    if part not in ("data", "text"):
+        return None
+    return text(event._replace(data=_behind_prefix(event.data)) if part == "text" else event)
+
+
+def _behind_prefix(data: bytes) -> bytes:
+    """What stands behind a prefix of GRUB, whose one blank ends it, as `kernel_cmdline: `."""
+    return data.partition(b" ")[2]
 
 
 def vouched_variable(event: Event, attest: Attest, bank: str) -> Variable | None:
@@ -1201,15 +1210,23 @@ class Verdict(NamedTuple):
     """What is said of a quote: it matches, or the first that fails: another signer, another nonce, a required register
     that is not selected (its bank and number are there), another digest, no register is selected, or a digest isn't on
     the list of those that are allowed (its bank and register are there, and how many bytes of the log precede its
-    record); and by `verify`, that it isn't signed by the key. It is true where the quote matches."""
+    record); and by `verify`, that it isn't signed by the key. It is true where the quote matches, and its text is as
+    `selection lacks sha256 7`."""
 
     kind: Kind
-    hash: str | None = None
-    pcr: int | None = None
+    bank: str | None = None
+    register: int | None = None
     at: int | None = None
 
     def __bool__(self) -> bool:
         return self.kind is Kind.MATCHES
+
+    def __str__(self) -> str:
+        name = {Kind.MATCHES: "matches", Kind.SIGNER: "signer differs", Kind.UNKNOWN: "unknown",
+                Kind.UNSIGNED: "not signed by the key"}
+        register = "" if self.bank is None else f" {self.bank} {self.register}"
+        place = "" if self.at is None else f" at {self.at}"
+        return (name.get(self.kind) or _answer_name(self.kind.value)) + register + place
 
 
 def check_quote(log: Log, quote: Buffer, hash: str = "sha256") -> Verdict:
@@ -1323,10 +1340,7 @@ class Mismatch(ValueError):
     """A quote is not to be believed, for this verdict."""
 
     def __init__(self, verdict: Verdict) -> None:
-        name = {Kind.SIGNER: "signer differs", Kind.UNKNOWN: "not allowed", Kind.UNSIGNED: "not signed by the key"}
-        register = "" if verdict.hash is None else f" {verdict.hash} {verdict.pcr}"
-        place = "" if verdict.at is None else f" at {verdict.at}"
-        super().__init__((name.get(verdict.kind) or _answer_name(verdict.kind.value)) + register + place)
+        super().__init__(str(verdict))
         self.verdict = verdict
 
     def __reduce__(self) -> tuple[type[Mismatch], tuple[Verdict]]:

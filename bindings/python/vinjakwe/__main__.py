@@ -58,7 +58,7 @@ def show_quote(log: bytes, data: bytes, given: argparse.Namespace) -> int:
     # Of the nonce a line is there already: what is said here is of the selection.
     verdict = check(log, data, ANY_NONCE, ANY_SELECTION if require is None else require, given.hash or "sha256")
     fits.append(verdict.kind not in (Kind.LACKS, Kind.EMPTY) and (given.any_selection or require is not None))
-    print("selection", {Kind.LACKS: f"lacks {verdict.hash} {verdict.pcr}", Kind.EMPTY: "empty"}.get(
+    print("selection", {Kind.LACKS: f"lacks {verdict.bank} {verdict.register}", Kind.EMPTY: "empty"}.get(
         verdict.kind, "not compared" if require is None else "covers"))
     said = quote_word(log, quote.info, given.hash)
     print("quote", said)

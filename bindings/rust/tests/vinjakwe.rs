@@ -234,8 +234,13 @@ fn texts_and_variables_that_are_vouched() {
     for (log, bank) in [("logs/measured.log", Bank::Sha256), ("quotes/17-ovmf-secureboot.log", Bank::Sha256)] {
         for it in events(&read(log)).map(Result::unwrap) {
             let part = it.vouched(&attest, bank);
-            let is_text = matches!(part, Some(MeasuredPart::Data | MeasuredPart::Text));
-            assert_eq!(it.vouched_text(&attest, bank), it.text().filter(|_| is_text));
+            let text: Option<String> = it.vouched_text(&attest, bank).map(|it| it.chars().collect());
+            let whole: Option<String> = it.text().map(|it| it.chars().collect());
+            match part {
+                Some(MeasuredPart::Data) => assert_eq!(text, whole),
+                Some(MeasuredPart::Text) => assert_eq!(text.as_deref(), whole.unwrap().split_once(' ').map(|it| it.1)),
+                _ => assert_eq!(text, None),
+            }
             let found = it.vouched_variable(&attest, bank);
             match part {
                 Some(MeasuredPart::Data) => assert_eq!(found, it.variable()),

@@ -1,6 +1,6 @@
-// Command verify says what booted on a machine, by which authority and with which command line, where a quote by this
-// key vouches for it: verify LOG QUOTE SIGNATURE KEY NONCE REGISTERS. The signature is as `tpm2_quote -s` writes it,
-// and the key in PEM.
+// Command verify says what booted on a machine, where a quote by this key vouches for it: verify LOG QUOTE SIGNATURE
+// KEY NONCE REGISTERS. The signature is as `tpm2_quote -s` writes it, and the key in PEM. The status is 0 where each
+// bank proves whether Secure Boot was on.
 package main
 
 import (
@@ -11,30 +11,31 @@ import (
 	"vinjakwe"
 )
 
-// tell prints what the quoted registers of a bank say, where the quote vouches for it.
-func tell(log []byte, attest *vinjakwe.Attest, quoted vinjakwe.SelectedBank) {
-	fmt.Println("bank", quoted.Bank)
-	if boot, err := vinjakwe.SecureBoot(log, quoted.Bank); !quoted.Has(7) {
-		fmt.Println("Secure Boot not quoted")
-	} else if err != nil {
-		fmt.Println("Secure Boot not told:", err)
-	} else {
-		fmt.Println("Secure Boot", boot.State)
+// tell prints what the registers of a bank say, where the quote vouches for it, whatever types the log has.
+func tell(log []byte, attest *vinjakwe.Attest, quoted vinjakwe.SelectedBank) (status int) {
+	boot, err := vinjakwe.SecureBoot(log, quoted.Bank)
+	if err != nil || !quoted.Has(7) {
+		boot, status = &vinjakwe.Boot{}, 1
 	}
+	fmt.Printf("bank %v\nSecure Boot %v\n", quoted.Bank, boot.State)
 	for events := vinjakwe.NewEvents(log); events.Next(); {
 		it := events.Event()
-		_, isVouched := it.Vouched(attest)[quoted.Bank]
-		variable, isVariable := it.VouchedVariable(attest, quoted.Bank)
+		variable, _ := it.VouchedVariable(attest, quoted.Bank)
 		text, isText := it.VouchedText(attest, quoted.Bank)
-		switch name, digest := it.TypeName(), it.Digest(quoted.Bank); {
-		case name == "EV_EFI_BOOT_SERVICES_APPLICATION" && isVouched:
-			fmt.Printf("image %x\n", digest)
-		case name == "EV_EFI_VARIABLE_AUTHORITY" && isVariable:
-			fmt.Printf("authority %s %x\n", variable.Name, digest)
-		case name == "EV_IPL" && isText:
-			fmt.Println("loader", text)
+		switch digest := it.Digest(quoted.Bank); {
+		case it.Vouched(attest)[quoted.Bank] == vinjakwe.Nothing:
+		case len(boot.Authorities) > 0 && boot.Authorities[0] == it.At:
+			boot.Authorities = boot.Authorities[1:]
+			fmt.Printf("authority %+q %x\n", variable.Name, digest)
+		case it.Register == 4 && it.TypeName() == "EV_EFI_BOOT_SERVICES_APPLICATION":
+			fmt.Printf("register 4 image %x\n", digest)
+		case it.Register == 8 && isText:
+			fmt.Printf("loader 8 %+q\n", text)
+		case it.Register == 8:
+			fmt.Printf("loader 8 %x\n", digest)
 		}
 	}
+	return status
 }
 
 func must[T any](it T, err error) T {
@@ -51,7 +52,9 @@ func main() {
 	nonce, registers := must(hex.DecodeString(os.Args[5])), must(vinjakwe.Selection(os.Args[6]))
 	expected := vinjakwe.Expected{Nonce: nonce, Selection: registers}
 	attest := must(vinjakwe.Verify(log, quote, signature, key, expected))
+	status := 0
 	for _, quoted := range attest.Selections {
-		tell(log, attest, quoted)
+		status |= tell(log, attest, quoted)
 	}
+	os.Exit(status)
 }
