@@ -1,6 +1,6 @@
 //! A command joined from its parts.
 
-ghost use Rattle.std.specs.Prelude.{◌≡◌, ◌+◌, ◌≤◌, IfOk, IfErr, List, ℕ, length, take, drop};
+ghost use Rattle.std.specs.Prelude.{◌≡◌, ◌+◌, ◌≤◌, true, IfOk, IfErr, List, ℕ, length, take, drop};
 ghost use Rattle.tpm_wire.specs.Path.{Spells, Fault};
 ghost use Rattle.tpm_commands.specs.declared.command.Command.{Command};
 ghost use Rattle.tpm_buffer.specs.Commands.{command as command_layout};
@@ -18,6 +18,9 @@ use tpm_wire::{Buffer, Refusal};
 
 // So many bytes of parameters are judged: one more than any command's have, so that the fault of more is among them.
 const JUDGED_BYTES: usize = 1101;
+
+// What is answered where the front of the joined parts is not asked for.
+const NOT_ASKED: Refusal = Refusal { code: 0, at: 0 };
 
 /// Joins the command of this number, TPM_CC, from the bytes of its handles, its sessions as they
 /// are spelled in the authorization area, and its parameters. It answers 0 with the command at the
@@ -70,34 +73,41 @@ fn judged_len(len: usize) -> usize
     }
 }
 
-// Joins the parts, and copies into `out` what begins at this place, as many bytes as it has. It is out of line, so that
-// the joined bytes are off the stack again: the parts are joined as often as their bytes are looked at.
+// The code of these joined parts, and how many bytes are before the parameters; or the first fault before them.
 #[inline(never)]
-fn copy(parts: &UnjoinedCommand<'_>, from: usize, out: &mut [u8])
-    requires { from + length out.old ≤ length parts.now }
-    ensures { out.new ≡ take (length out.old) (drop from parts.now) }
-{
-    let mut bytes = Buffer::new();
-    parts.join(&mut bytes);
-    let begun = &bytes.as_slice()[from..];
-    out.copy_from_slice(&begun[..out.len()]);
-}
-
-// The code of the joined parts, and how many bytes are before the parameters; or the first fault before them. It is out
-// of line for the same reason.
-#[inline(never)]
-fn front(parts: &UnjoinedCommand<'_>) -> Result<(CommandCode, u32), Refusal>
-    ensures front { IfOk result (λ front. HasFront parts.now front.0 front.1) }
+fn front(joined: &[u8]) -> Result<(CommandCode, u32), Refusal>
+    ensures front { IfOk result (λ front. HasFront joined.now front.0 front.1) }
     ensures near { IfOk result (λ front. front.1 ≤ 4096) }
-    ensures fault { IfErr result (λ e. Fault command_layout parts.now e) }
+    ensures fault { IfErr result (λ e. Fault command_layout joined.now e) }
 {
-    let mut bytes = Buffer::new();
-    parts.join(&mut bytes);
-    let joined = bytes.as_slice();
     match areas(joined) {
         Ok(areas) => Ok((areas.code(), areas.params_at())),
         Err(fault) => Err(fault),
     }
+}
+
+// Joins the parts, and copies into `out` what begins at this place, as many bytes as it has. The answer is their front,
+// where it is asked for. It is out of line, so that the joined bytes are off the stack when the parameters are judged:
+// the parts are joined as often as their bytes are looked at.
+#[inline(never)]
+fn look(
+    parts: &UnjoinedCommand<'_>,
+    from: usize,
+    out: &mut [u8],
+    asks: bool,
+) -> Result<(CommandCode, u32), Refusal>
+    requires { from + length out.old ≤ length parts.now }
+    ensures bytes { out.new ≡ take (length out.old) (drop from parts.now) }
+    ensures front { asks ≡ true → IfOk result (λ front. HasFront parts.now front.0 front.1) }
+    ensures near { asks ≡ true → IfOk result (λ front. front.1 ≤ 4096) }
+    ensures fault { asks ≡ true → IfErr result (λ e. Fault command_layout parts.now e) }
+{
+    let mut bytes = Buffer::new();
+    parts.join(&mut bytes);
+    let joined = bytes.as_slice();
+    let begun = &joined[from..];
+    out.copy_from_slice(&begun[..out.len()]);
+    if asks { front(joined) } else { Err(NOT_ASKED) }
 }
 
 // Whether these are the first parameters of a command with this code, as many as are judged, which begin at this place.
@@ -129,7 +139,7 @@ fn judge_behind(parts: &UnjoinedCommand<'_>, code: CommandCode, at: u32) -> Resu
 {
     let mut window = [0; JUDGED_BYTES];
     let params = &mut window[..judged_len(parts.len() - at as usize)];
-    copy(parts, at as usize, params);
+    let _ = look(parts, at as usize, params, false);
     judge_at(code, at, params)
 }
 
@@ -138,7 +148,7 @@ fn judge(parts: &UnjoinedCommand<'_>) -> Result<(), Refusal>
     ensures spells { IfOk result (λ _. (c : Command) × Spells command_layout c parts.now) }
     ensures fault { IfErr result (λ e. Fault command_layout parts.now e) }
 {
-    let (code, at) = front(parts)?;
+    let (code, at) = look(parts, parts.len(), &mut [], true)?;
     if parts.len() == at as usize {
         return judge_at(code, at, &[]);
     }
@@ -151,7 +161,7 @@ fn write(parts: &UnjoinedCommand<'_>, out: &mut [u8]) -> usize
     ensures { IsIn parts.now out.old out.new result }
 {
     let len = parts.len();
-    copy(parts, 0, &mut out[..len]);
+    let _ = look(parts, 0, &mut out[..len], false);
     len
 }
 
