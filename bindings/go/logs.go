@@ -13,7 +13,6 @@ import (
 	"encoding/binary"
 	"fmt"
 	"io"
-	"strings"
 	"unicode/utf16"
 )
 
@@ -286,13 +285,6 @@ func variableOf(data []byte, it C.struct_tpm_variable) Variable {
 	return Variable{guid(data, it.guid), wide(part(data, it.name)), part(data, it.value)}
 }
 
-// A PathNode of a device path (UEFI Specification, "Generic Device Path Structures"), whose data are lent from the
-// event's data.
-type PathNode struct {
-	Type, Subtype uint8
-	Data          []byte
-}
-
 // An Image that was loaded: its address in memory, its bytes there, the address that it was linked for, and the nodes
 // of its device path, up to the first fault. The record's digest is of the image, and vouches for none of these.
 type Image struct {
@@ -305,7 +297,7 @@ type Image struct {
 func (i Image) File() (name string) {
 	for _, it := range i.Path {
 		if it.Type == 4 && it.Subtype == 4 && len(it.Data)%2 == 0 {
-			name += strings.TrimSuffix(wide(it.Data), "\x00")
+			name += fileName(it.Data)
 		}
 	}
 	return name

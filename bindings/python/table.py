@@ -76,7 +76,8 @@ def wide(text):
 
 
 def nodes(path):
-    return ",".join(f"{it.type}:{it.subtype}:{it.data.hex()}" for it in path) or "-"
+    told = vinjakwe.path_text(path).encode("utf-16-le", "surrogatepass").decode("utf-16-le", "replace")
+    return f"{','.join(f'{it.type}:{it.subtype}:{it.data.hex()}' for it in path) or '-'} {shown(told.encode())}"
 
 
 def held(it):

@@ -25,9 +25,9 @@ func nodes(path []vinjakwe.PathNode) string {
 		told = append(told, fmt.Sprintf("%d:%d:%s", it.Type, it.Subtype, hex.EncodeToString(it.Data)))
 	}
 	if told == nil {
-		return "-"
+		told = []string{"-"}
 	}
-	return strings.Join(told, ",")
+	return strings.Join(told, ",") + " " + text([]byte(vinjakwe.PathText(path)))
 }
 
 func owned(it vinjakwe.Owned) string {

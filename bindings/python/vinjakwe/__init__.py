@@ -16,8 +16,10 @@ from contextlib import contextmanager
 from ctypes import POINTER, Structure, byref, c_size_t, c_uint8, c_uint16, c_uint32, c_uint64, c_void_p
 from ctypes.util import find_library
 from dataclasses import dataclass
+from ipaddress import IPv4Address, IPv6Address
 from mmap import mmap
 from pathlib import Path
+from struct import calcsize, unpack, unpack_from
 from typing import (
     TYPE_CHECKING, Any, BinaryIO, Callable, Dict, Final, Iterable, Iterator, Literal, NamedTuple, Tuple, Union,
 )
@@ -36,8 +38,8 @@ __all__ = [
     "SecureBootFault", "SecureBootState", "Separator", "Session", "Signature", "SignatureList", "SignatureLists",
     "SizedAttest", "Table", "Tables", "Tag", "Text", "Variable", "Verdict", "Version", "build_command", "changes_nv",
     "check", "check_quote", "code_name", "content", "decode_attest", "decode_command", "decode_response",
-    "decode_signature", "event_type_name", "events", "image", "measured", "replay", "secure_boot", "selection", "text",
-    "variable", "verify", "vouched", "vouched_text", "vouched_variable",
+    "decode_signature", "event_type_name", "events", "image", "measured", "path_text", "replay", "secure_boot",
+    "selection", "text", "variable", "verify", "vouched", "vouched_text", "vouched_variable",
 ]
 __version__ = "0.1.0"
 
@@ -668,11 +670,82 @@ def variable(event: Event) -> Variable | None:
 
 
 class PathNode(NamedTuple):
-    """A node of a device path (UEFI Specification, "Generic Device Path Structures")."""
+    """A node of a device path (UEFI Specification, "Generic Device Path Structures"). `str` gives its text, as
+    `tpmtool events --json` has it ("Device Path Text Representation")."""
 
     type: int
     subtype: int
     data: bytes
+
+    def __str__(self) -> str:
+        at, data, size = (self.type, self.subtype), self.data, len(self.data)
+        if at in _NUMBERS and size == calcsize(_NUMBERS[at][0]):
+            layout, text = _NUMBERS[at]
+            return text.format(*unpack(layout, data))
+        if at in _NAMED and (size == 16 or size > 16 and at in _VENDORS):
+            return f"{_NAMED[at]}({_by_commas(str(uuid.UUID(bytes_le=data[:16])), data[16:].hex())})"
+        if at == (2, 1) and size == 8:
+            id, unique = unpack("<II", data)
+            return f"{_ACPI_NAMES[id]}({unique:#x})" if id in _ACPI_NAMES else f"Acpi({id:#010x},{unique:#x})"
+        if at == (3, 11) and size == 33:
+            return f"MAC({data[:6 if data[32] <= 1 else 32].hex()},{data[32]:#x})"
+        if at == (3, 12) and size in (15, 23):
+            return f"IPv4({_network(data, IPv4Address, ('DHCP', 'Static'), data[15:])})"
+        if at == (3, 13) and size in (39, 56):
+            return f"IPv6({_network(data, IPv6Address, _ORIGINS, data[40:], *(f'{it:#x}' for it in data[39:40]))})"
+        if at == (3, 23) and size == 12:
+            return f"NVMe({int.from_bytes(data[:4], 'little'):#x},{data[4:].hex('-')})"
+        if at == (3, 24):
+            return f"Uri({data.decode('latin-1')})"
+        if at == (4, 1) and size == 38:
+            number, start, blocks, signature, kind = unpack("<IQQ16sxB", data)
+            by = {1: f"MBR,0x{signature[3::-1].hex()}", 2: f"GPT,{uuid.UUID(bytes_le=signature)}"}
+            return f"HD({number},{by.get(kind, f'{kind},0')},{start:#x},{blocks:#x})"
+        if at == (4, 4) and size % 2 == 0 and data not in (b"", b"\0\0"):
+            return _path_name(data)
+        return f"Path({_by_commas(*map(str, at), data.hex())})"
+
+
+_NUMBERS = {
+    (1, 1): ("<BB", "Pci({1:#x},{0:#x})"), (3, 2): ("<HH", "Scsi({:#x},{:#x})"), (3, 5): ("<BB", "USB({:#x},{:#x})"),
+    (3, 18): ("<HHH", "Sata({:#x},{:#x},{:#x})"), (4, 2): ("<IQQ", "CDROM({:#x},{:#x},{:#x})"),
+    (4, 8): ("<4xQQ", "Offset({:#x},{:#x})"),
+}
+_VENDORS = {(1, 4): "VenHw", (3, 10): "VenMsg", (4, 3): "VenMedia"}
+_NAMED = {**_VENDORS, (4, 6): "FvFile", (4, 7): "Fv"}
+_ACPI_NAMES = {0x0A0341D0: "PciRoot", 0x0A0841D0: "PcieRoot", 0x060441D0: "Floppy", 0x030141D0: "Keyboard",
+               0x050141D0: "Serial", 0x040141D0: "ParallelPort"}
+_ORIGINS = ("Static", "StatelessAutoConfigure", "StatefulAutoConfigure")
+
+
+def _by_commas(*words: str) -> str:
+    return ",".join(filter(None, words))
+
+
+def _network(
+    data: bytes, address: type[IPv4Address] | type[IPv6Address], origins: tuple[str, ...], rest: bytes, *prefix: str,
+) -> str:
+    """The remote address of a network's node, the protocol, where the local address is from, that, and what is behind."""
+    size = 4 if address is IPv4Address else 16
+    protocol, origin = unpack_from("<HB", data, 2 * size + 4)
+    addresses = [address(it[at:at + size]).exploded for it in (data[:2 * size], rest) for at in range(0, len(it), size)]
+    return _by_commas(addresses[1], {6: "TCP", 17: "UDP"}.get(protocol, f"{protocol:#x}"),
+                      origins[min(origin, len(origins) - 1)], addresses[0], *prefix, *addresses[2:])
+
+
+def _path_name(data: bytes) -> str:
+    return data.decode("utf-16-le", "surrogatepass").removesuffix("\0")
+
+
+def path_text(path: Iterable[PathNode]) -> str:
+    """The text of a device path, by its nodes: a slash is between two of them, and a comma between two paths."""
+    text = between = ""
+    for node in path:
+        if node == (0x7F, 1, b""):
+            text, between = text + ",", ""
+        elif node[:2] != (0x7F, 0xFF):
+            text, between = f"{text}{between}{node}", "/"
+    return text
 
 
 class Image(NamedTuple):
@@ -689,9 +762,8 @@ class Image(NamedTuple):
     def file(self) -> str:
         """The path name of the image's file, or "" where its path has none. Units that are no UTF-16 stay as they
         are."""
-        names = (it.data.decode("utf-16-le", "surrogatepass") for it in self.path
-                 if (it.type, it.subtype) == (4, 4) and len(it.data) % 2 == 0)
-        return "".join(name.removesuffix("\0") for name in names)
+        return "".join(_path_name(it.data) for it in self.path
+                       if (it.type, it.subtype) == (4, 4) and len(it.data) % 2 == 0)
 
 
 def image(event: Event) -> Image | None:

@@ -96,9 +96,11 @@ fn wide(chars: impl Iterator<Item = char>) -> String {
     text(&units.iter().flat_map(|it| it.to_le_bytes()).collect::<Vec<_>>())
 }
 
-fn nodes<'a>(path: impl Iterator<Item = PathNode<'a>>) -> String {
-    let told: Vec<String> = path.map(|it| format!("{}:{}:{}", it.kind, it.subtype, hex(it.data))).collect();
-    if told.is_empty() { "-".into() } else { told.join(",") }
+// The nodes of a device path, and its text.
+fn nodes(path: &[u8]) -> String {
+    let told: Vec<String> = path_nodes(path).map(|it| format!("{}:{}:{}", it.kind, it.subtype, hex(it.data))).collect();
+    let told = if told.is_empty() { "-".into() } else { told.join(",") };
+    format!("{told} {}", text(PathText(path).to_string().as_bytes()))
 }
 
 fn owned(it: Owned) -> String {
@@ -109,7 +111,7 @@ fn held_lines(it: Held) -> Vec<String> {
     match it {
         Held::LoadOption(it) => {
             let first = format!("option {} {} {}", it.attributes, wide(it.description_chars()), text(it.data));
-            let paths = it.paths().map(|it| format!("path {}", nodes(path_nodes(it))));
+            let paths = it.paths().map(|it| format!("path {}", nodes(it)));
             std::iter::once(first).chain(paths).collect()
         }
         Held::BootOrder(it) => {
@@ -138,7 +140,7 @@ fn content_lines(it: Content) -> Vec<String> {
         Content::Separator(it) => vec![format!("separator {it}")],
         Content::Locality(it) => vec![format!("locality {it}")],
         Content::Image(it) => {
-            vec![format!("image {} {} {} {}", it.address, it.size, it.link_address, nodes(it.nodes()))]
+            vec![format!("image {} {} {} {}", it.address, it.size, it.link_address, nodes(it.path))]
         }
         Content::Firmware(it) => vec![format!("firmware {} {} {}", it.base, it.size, text(it.name))],
         Content::Tables(it) => {
@@ -158,7 +160,7 @@ fn content_lines(it: Content) -> Vec<String> {
         }
         Content::Evidence(it) => {
             let (state, kind, sub_kind, uid) = (it.auth_state, it.device_type, it.sub_header_type, it.uid);
-            let (path, sub, context) = (nodes(it.nodes()), text(it.sub_header), text(it.context));
+            let (path, sub, context) = (nodes(it.path), text(it.sub_header), text(it.context));
             vec![format!("evidence {state} {kind} {sub_kind} {uid} {path} {sub} {context}")]
         }
     }

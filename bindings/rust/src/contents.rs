@@ -1,5 +1,6 @@
 //! What the data of records say, by their kind, as `Event::content` tells it.
-use crate::logs::{path_nodes, utf16_chars, variable_of};
+use crate::logs::{utf16_chars, variable_of};
+use crate::paths::path_nodes;
 use crate::{c, part, Event, Image, PathNode, Text, Variable};
 
 /// What the data of a record say, which borrows from the log. `Event::measured` says whether the record's digests are

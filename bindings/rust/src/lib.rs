@@ -13,6 +13,7 @@ pub mod c;
 mod contents;
 mod logs;
 mod names;
+mod paths;
 mod quotes;
 mod states;
 
@@ -26,10 +27,11 @@ pub use contents::{
     SignatureLists, Table, Tables,
 };
 pub use logs::{
-    check, check_quote, events, path_nodes, replay, Bank, Digest, Event, Events, Expected, Image, MeasuredPart, Nonce,
-    PathNode, Registers, Replay, Required, Text, TypeName, Variable, Verdict,
+    check, check_quote, events, replay, Bank, Digest, Event, Events, Expected, Image, MeasuredPart, Nonce, Registers,
+    Replay, Required, Text, TypeName, Variable, Verdict,
 };
 pub use names::{CodeName, Name};
+pub use paths::{path_nodes, PathNode, PathText};
 pub use quotes::{Attest, Policy, Selection, Signature};
 pub use states::{changes_nv, Caller, Counter, Device, Framer, Place, Room};
 
