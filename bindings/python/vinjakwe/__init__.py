@@ -692,7 +692,8 @@ class PathNode(NamedTuple):
         if at == (3, 12) and size in (15, 23):
             return f"IPv4({_network(data, IPv4Address, ('DHCP', 'Static'), data[15:])})"
         if at == (3, 13) and size in (39, 56):
-            return f"IPv6({_network(data, IPv6Address, _ORIGINS, data[40:], *(f'{it:#x}' for it in data[39:40]))})"
+            prefix = [f"{it:#x}" for it in data[39:40]]
+            return f"IPv6({_network(data, IPv6Address, _ORIGINS, data[40:], *prefix)})"
         if at == (3, 23) and size == 12:
             return f"NVMe({int.from_bytes(data[:4], 'little'):#x},{data[4:].hex('-')})"
         if at == (3, 24):
