@@ -597,11 +597,10 @@ def facts():
         log.record(8, IPL, text.encode()).record(8, IPL, text.encode("utf-16-le") + bytes(4))
     for name, value in (("SecureBoot", b"\1"), ("SecureBoot", b"\0"), ("SecureBoot", b""), ("SetupMode", b"\xff")):
         log.record(7, VARIABLE, efi_variable(GLOBAL, name, value))
-    shim = uuid.UUID("605dab50-e046-4300-abb6-3dd810dd8b23").bytes_le
     of_owner = bytes(range(16)) + b"a certificate"
     for guid, name, value in ((DATABASE, "db", of_owner), (DATABASE, "dbx", bytes(16)), (DATABASE, "db", bytes(15)),
                               (DATABASE, "db", b"\1"), (DATABASE, "other", of_owner), (GLOBAL, "KEK", of_owner),
-                              (shim, "MokList", of_owner), (shim, "MokListRT", of_owner), (shim, "Shim", of_owner)):
+                              (SHIM, "MokList", of_owner), (SHIM, "MokListRT", of_owner), (SHIM, "Shim", of_owner)):
         log.record(7, AUTHORITY, efi_variable(guid, name, value))
     boot = file("\\EFI\\BOOT\\BOOTX64.EFI") + END
     head = struct.pack("<IH", 1, 0)[:4]
@@ -721,6 +720,7 @@ def faults():
 DRIVER_CONFIG, ACTION, AUTHORITY = 0x80000001, 0x80000007, 0x800000E0
 GLOBAL = uuid.UUID("8be4df61-93ca-11d2-aa0d-00e098032b8c").bytes_le
 DATABASE = uuid.UUID("d719b2cb-3d3a-4596-a3bc-dad00e67656f").bytes_le
+SHIM = uuid.UUID("605dab50-e046-4300-abb6-3dd810dd8b23").bytes_le
 DEVICES = uuid.UUID("b9c2b4f4-bf5f-462d-8adf-c5c70ac35dad").bytes_le
 
 
@@ -813,12 +813,12 @@ class Boot(Log):
     def part(self, value=bytes(4)):
         return self.record(7, SEPARATOR, value)
 
-    def authority(self, name, byte_more=False):
+    def authority(self, name, byte_more=False, vendor=DATABASE):
         self.lines.append(f"authority at {len(self.bytes)} variable {name}\n")
         value = b"an entry of " + name.encode()
-        vendor = str(uuid.UUID(bytes_le=DATABASE))
-        self.authorities.append({"at": len(self.bytes), "guid": vendor, "name": name, "data": value.hex()})
-        data = efi_variable(DATABASE, name, value)
+        guid = str(uuid.UUID(bytes_le=vendor))
+        self.authorities.append({"at": len(self.bytes), "guid": guid, "name": name, "data": value.hex()})
+        data = efi_variable(vendor, name, value)
         return self.record(7, AUTHORITY, data + b"\n" if byte_more else data, data)
 
     def told(self, name, state):
@@ -851,6 +851,8 @@ class Boot(Log):
 
 def boots():
     Boot(THREE).keys().part().authority("db").authority("Shim", byte_more=True).told("secure_on", "on")
+    # What shim measures of itself counts as an authority, though it let nothing be loaded.
+    Boot().keys().part().authority("SbatLevel", vendor=SHIM).told("secure_shim", "on")
     Boot().keys(switch=b"\0").part(b"\xff" * 4).told("secure_off", "off")
     Boot().keys(switch=b"").part().told("secure_unset", "unset")
     protection = Boot().record(7, ACTION, b"DMA Protection Disabled").keys().part().authority("db")
