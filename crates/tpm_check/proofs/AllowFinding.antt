@@ -1,5 +1,6 @@
 -- The set of allowed digests, one more.
-use Rattle.std.proofs.Common.{◌≡◌, ℕ, Bool, true, false, cond, List, [], ◌∷◌, ◌++◌, refl, sym, ap, ◌∙◌}
+use Rattle.std.proofs.Common.{◌≡◌, ◌<◌, ℕ, Bool, true, false, cond, List, [], ◌∷◌, ◌++◌, length, take, arith, refl, sym, ap, ◌∙◌}
+use Rattle.std.proofs.lemmas.List.{take_all}
 use Rattle.std.specs.Prelude.{◌&&◌, ◌||◌, nat_eq}
 use Rattle.std.specs.Cmp.Lexicographic.{pointwise}
 use Rattle.std.specs.HashSet.{HashSet, contains}
@@ -31,3 +32,7 @@ found_allowed [] k bank register d of_bank of_register of_digest = refl
 found_allowed (a ∷ list) k bank register d of_bank of_register of_digest =
     let one : has_key k a ≡ (is_for bank register a && pointwise nat_eq a.digest.1 d) = rw (of_bank, of_register, of_digest) refl in
     rw (one, found_allowed list k bank register d of_bank of_register of_digest) refl
+
+-- Fewer bytes begin with all of them.
+pub whole_head : (bytes : List ℕ) → length bytes < 8 → bytes ≡ take 8 bytes
+whole_head bytes short = sym (take_all 8 bytes (omega (arith, short)))
