@@ -56,7 +56,7 @@ added q k (x ∷ ks) = go (cmp k x) (is_eq-slice_cmp k.now x.now) (added q k ks)
 
 -- ---- digests that were told
 
-any_behind : (p : Extension → Bool) (xs : List Extension) (x : Extension) → list_any p (xs ++ x ∷ []) ≡ (p x || list_any p xs)
+pub any_behind : {X : Type 0} (p : X → Bool) (xs : List X) (x : X) → list_any p (xs ++ x ∷ []) ≡ (p x || list_any p xs)
 any_behind p [] x = refl
 any_behind p (y ∷ ys) x = ap (λ (b : Bool). p y || b) (any_behind p ys x) ∙ swap (p y) (p x) (list_any p ys)
 

@@ -9,8 +9,7 @@ ghost use Rattle.tpm_check.specs.inner.AllowReading.{lines_left, read_as};
 
 use crate::stated::{bank_named, cut, register_named};
 use std::alloc::{AllocError, Global};
-use tpm_output::hexadecimal::decoded;
-use tpm_types::{Alg, HashedDigest, PcrIndex};
+use tpm_types::{Alg, DIGEST_BYTES, HashedDigest, PcrIndex};
 use tpm_vouched::AllowedDigest;
 
 /// What a line says.
@@ -25,37 +24,32 @@ pub(crate) enum AllowLine {
 }
 
 // What hexadecimal digits allow, where they spell a digest of the bank.
-fn read_digest(
-    alloc: Global,
-    bank: Alg,
-    register: PcrIndex,
-    digits: &[u8],
-) -> Result<AllowLine, AllocError>
-    ensures { IfOk result (λ line. line ≡ allowing bank register (bytes_in digits.now)) }
+#[tactic(auto, using(crate::proofs::AllowReading::spelled, crate::proofs::AllowReading::not_spelled))]
+fn read_digest(bank: Alg, register: PcrIndex, digits: &[u8]) -> AllowLine
+    ensures { result ≡ allowing bank register (bytes_in digits.now) }
 {
-    let Some(bytes) = decoded(alloc, digits)? else {
-        return Ok(AllowLine::Wrong);
-    };
-    match HashedDigest::new(bank, bytes.as_slice()) {
-        Some(digest) => Ok(AllowLine::Allows(AllowedDigest { register, digest })),
-        None => Ok(AllowLine::Wrong),
+    let mut bytes = [0; DIGEST_BYTES];
+    let bytes = &mut bytes[..bank.digest_len()];
+    if hex::decode_to_slice(digits, bytes).is_err() {
+        return AllowLine::Wrong;
+    }
+    match HashedDigest::new(bank, bytes) {
+        Some(digest) => AllowLine::Allows(AllowedDigest { register, digest }),
+        None => AllowLine::Wrong,
     }
 }
 
 // What the words of a line say.
-fn read_words(alloc: Global, text: &[u8]) -> Result<AllowLine, AllocError>
-    ensures { IfOk result (λ line. line ≡ allowing_in text.now) }
+fn read_words(text: &[u8]) -> AllowLine
+    ensures { result ≡ allowing_in text.now }
 {
     let (bank, behind) = cut(text);
     let (register, behind) = cut(behind);
     let (digits, _) = cut(behind);
-    let Some(bank) = bank_named(bank) else {
-        return Ok(AllowLine::Wrong);
-    };
-    let Some(register) = register_named(register) else {
-        return Ok(AllowLine::Wrong);
-    };
-    read_digest(alloc, bank, register, digits)
+    match (bank_named(bank), register_named(register)) {
+        (Some(bank), Some(register)) => read_digest(bank, register, digits),
+        _ => AllowLine::Wrong,
+    }
 }
 
 fn comment_in(line: &[u8]) -> Option<usize>
@@ -79,14 +73,14 @@ fn is_blank(text: &[u8]) -> bool
     text.iter().all(|byte| *byte == b' ')
 }
 
-fn read_line(alloc: Global, line: &[u8]) -> Result<AllowLine, AllocError>
-    ensures { IfOk result (λ read. read ≡ allow_line line.now) }
+fn read_line(line: &[u8]) -> AllowLine
+    ensures { result ≡ allow_line line.now }
 {
     let text = before_comment(line);
     if is_blank(text) {
-        return Ok(AllowLine::Nothing);
+        return AllowLine::Nothing;
     }
-    read_words(alloc, text)
+    read_words(text)
 }
 
 fn first_feed(bytes: &[u8]) -> Option<usize>
@@ -127,7 +121,7 @@ pub(crate) fn read_allowed(
     while let Some(lines) = left {
         let (line, behind) = cut_line(lines);
         number += 1;
-        match read_line(alloc, line)? {
+        match read_line(line) {
             AllowLine::Allows(digest) => found.push(digest)?,
             AllowLine::Nothing => {}
             AllowLine::Wrong => return Ok(Err(number)),
