@@ -170,6 +170,30 @@ else
     skip "$name" "the headers of tpm2-tss are not there"
 fi
 
+# Each row of a table of names is in the header, and its families have no further name. It lacks TPM_HT_AC and all but
+# the first and the last of TPM_RH_ACT; of a bit it has the mask; it names some numbers twice.
+name="handles, algorithms, types, tags and attributes have their names"
+if [ -r "$header" ]; then
+    grep -l 'names!\[' crates/tpm_show/src/*.rt | xargs grep -ohE '[0-9a-fx]+ "[A-Za-z0-9_]+",' | tr -d '",' |
+        while read -r number word; do
+            case $word in
+            TPM_*) ;;
+            TPMA_*) number=$((1 << number)) ;;
+            *) number=$((1 << number)) word=TPMA_SESSION_$(echo "$word" | tr a-z A-Z) ;;
+            esac
+            echo "$word $((number))"
+        done | grep -v -e '^TPM_HT_AC ' -e '^TPM_RH_ACT_[1-9A-E] ' | sort >"$room/rows"
+    families='A_NV|A_SESSION|_RH|_RS|_HT|_ST|_ALG|_SU|_SE'
+    sed -nE "s/^#define TPM2?(($families)_[A-Z0-9_]+) .*\) 0[xX]([0-9A-F]+)\).*/TPM\1 0x\3/p" "$header" |
+        grep -v -e '_\(FIRST\|LAST\|MASK\) ' -e '^TPM_ALG_\(ERROR\|SHA\) ' -e '^TPM_RH_PW ' \
+            -e '^TPM_HT_\(LOADED\|SAVED\)_' | xargs printf '%s %d\n' | sort >"$room/names"
+    comm -3 "$room/rows" "$room/names" | grep -v "^$(printf '\t')TPM_ST_" >"$room/wrong"
+    [ "$(wc -l <"$room/rows")" -ge 100 ] || wc -l "$room/rows" >>"$room/wrong"
+    if [ -s "$room/wrong" ]; then fail "$name" "$(cat "$room/wrong")"; else pass "$name"; fi
+else
+    skip "$name" "the header of tpm2-tss is not there"
+fi
+
 # feeds N: N line feeds.
 feeds() {
     head -c "$1" /dev/zero | tr '\0' '\n'

@@ -9,7 +9,7 @@ use Rattle.tpm_model.specs.InStep.{CallerSession}
 use Rattle.tpm_model.specs.Callers.{Waiting}
 use Rattle.tpm_caller.specs.Sent.{sent, IsSpelled}
 use Rattle.tpm_caller.specs.Plain.{PlainParts, parts_of, parts_in, PartsFit, IsSentFrom}
-use Rattle.tpm_c.specs.declared.caller.Held.TheVariants.{Free, Sealed}
+use Rattle.tpm_c.specs.declared.caller.CallerState.TheVariants.{Free, Sealed}
 use Rattle.tpm_c.specs.Written.{IsIn}
 use Rattle.tpm_c.specs.Callers.{names_of, do_fit, SealedWith, seal_of, seal_by, sealed_bytes, after_seal}
 

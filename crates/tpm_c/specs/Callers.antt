@@ -27,13 +27,13 @@ use Rattle.tpm_caller.specs.Faults.{fault_of}
 use Rattle.tpm_caller.specs.Sent.{sent}
 use Rattle.tpm_caller.specs.Plain.{body_in}
 use Rattle.tpm_caller.specs.declared.waiting.CallerFault.TheVariants as faults
-use Rattle.tpm_c.specs.declared.caller.Held.TheVariants.{Spent, Free, Sealed}
-use Rattle.tpm_c.specs.declared.caller.Held.{Held}
-use Rattle.tpm_c.specs.contracts.caller.Held.{the_row}
+use Rattle.tpm_c.specs.declared.caller.CallerState.TheVariants.{Spent, Free, Sealed}
+use Rattle.tpm_c.specs.declared.caller.CallerState.{CallerState}
+use Rattle.tpm_c.specs.contracts.caller.CallerState.{the_row}
 
 -- This lies there.
-abbrev pub held_at : Held → Ptr → Fml
-held_at held p = lies_at the_row full_share p held
+abbrev pub state_at : CallerState → Ptr → Fml
+state_at state p = lies_at the_row full_share p state
 
 -- ---- starting
 
@@ -68,9 +68,9 @@ abbrev pub start_code : Option CallerSession → ℕ
 start_code (Some c) = 1
 start_code None = 0
 
-abbrev pub after_start : Held → Option CallerSession → Held
-after_start held (Some c) = Free c
-after_start held None = held
+abbrev pub after_start : CallerState → Option CallerSession → CallerState
+after_start state (Some c) = Free c
+after_start state None = state
 
 -- ---- sealing
 
@@ -110,23 +110,23 @@ seal_of c body means = record {
   keep = means.keep;
 }
 
-abbrev pub seal_by : Held → Option CommandBody → SealedWith → Option Seal
+abbrev pub seal_by : CallerState → Option CommandBody → SealedWith → Option Seal
 seal_by (Free c) (Some body) means =
     if do_fit (names_of body means.first means.second) means.nonce then Some (seal_of c body means) else None
 seal_by _ _ means = None
 
 -- what is sealed, if anything is
-abbrev pub sealing : Held → (command_bytes : List ℕ) → SealedWith → (room : ℕ) → Option Seal
-sealing held bytes means room =
-    if nat_le 4096 room then seal_by held (body_in (read_all command bytes)) means else None
+abbrev pub sealing : CallerState → (command_bytes : List ℕ) → SealedWith → (room : ℕ) → Option Seal
+sealing state bytes means room =
+    if nat_le 4096 room then seal_by state (body_in (read_all command bytes)) means else None
 
 abbrev pub sealed_bytes : Option Seal → List ℕ
 sealed_bytes (Some s) = sealed s
 sealed_bytes None = []
 
-abbrev pub after_seal : Held → Option Seal → Held
-after_seal held (Some s) = Sealed (sent s).waiting
-after_seal held None = held
+abbrev pub after_seal : CallerState → Option Seal → CallerState
+after_seal state (Some s) = Sealed (sent s).waiting
+after_seal state None = state
 
 -- ---- opening
 
@@ -141,29 +141,29 @@ abbrev pub opened_code : Result Opened model.CallerFault → ℕ
 opened_code (Ok x) = 0
 opened_code (Err fault) = fault_number (fault_of fault)
 
-abbrev pub open_code : Held → List ℕ → ℕ
+abbrev pub open_code : CallerState → List ℕ → ℕ
 open_code (Sealed w) bytes = opened_code (opened w bytes)
 open_code _ bytes = 5
 
 -- free with the caller, where it is kept
-abbrev pub kept : Option CallerSession → Held
+abbrev pub kept : Option CallerSession → CallerState
 kept (Some c) = Free c
 kept None = Spent
 
-abbrev pub after_opened : Waiting → Result Opened model.CallerFault → Held
+abbrev pub after_opened : Waiting → Result Opened model.CallerFault → CallerState
 after_opened w (Ok x) = kept x.caller
 after_opened w (Err fault) = Sealed w
 
-abbrev pub after_open : Held → List ℕ → Held
+abbrev pub after_open : CallerState → List ℕ → CallerState
 after_open (Sealed w) bytes = after_opened w (opened w bytes)
-after_open held bytes = held
+after_open state bytes = state
 
 -- ---- giving up
 
-abbrev pub give_up_code : Held → List ℕ → ℕ
+abbrev pub give_up_code : CallerState → List ℕ → ℕ
 give_up_code (Sealed w) bytes = start_code (given_up w bytes)
 give_up_code _ bytes = 0
 
-abbrev pub after_give_up : Held → List ℕ → Held
+abbrev pub after_give_up : CallerState → List ℕ → CallerState
 after_give_up (Sealed w) bytes = after_start (Sealed w) (given_up w bytes)
-after_give_up held bytes = held
+after_give_up state bytes = state

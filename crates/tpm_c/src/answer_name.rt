@@ -1,16 +1,16 @@
 //! The names of what the calls on logs answer.
 
-ghost use Rattle.std.specs.Prelude.{length, option_map};
+ghost use Rattle.std.specs.Prelude.{length};
 ghost use Rattle.tpm_output.specs.Named.{named_in};
 ghost use Rattle.tpm_c.specs.AnswerNames.{answer_names};
 ghost use Rattle.tpm_c.specs.Written.{in_room, IsIn};
 
 use crate::handed::put_in_room;
-use tpm_output::named::{Named, look_up};
+use tpm_output::named::{Row, look_up};
 use tpm_output::names;
 
 // The faults of a log, what is said of a quote, the states of Secure Boot, and why none is told.
-const NAMES: [Named; 33] = names![
+const NAMES: [Row; 33] = names![
     1 "Truncated",
     2 "TooLong",
     3 "NotCryptoAgile",
@@ -52,11 +52,11 @@ const NAMES: [Named; 33] = names![
 /// room.
 #[unsafe(no_mangle)]
 pub extern "C" fn tpm_log_answer_name(answer: u32, out: &mut [u8]) -> usize
-    ensures { IsIn (in_room (length out.old) (option_map (λ n. n.name) (named_in answer_names answer)))
+    ensures { IsIn (in_room (length out.old) (named_in answer_names answer))
         out.old out.new result }
 {
     match look_up(&NAMES, answer) {
-        Some(named) => put_in_room(out, named.name.as_bytes()),
+        Some(name) => put_in_room(out, name.as_bytes()),
         None => 0,
     }
 }

@@ -11,11 +11,11 @@ ghost use Rattle.tpm_buffer.specs.Commands.{command as command_layout};
 ghost use Rattle.tpm_model.specs.Callers.{Opened, Waiting, opened};
 ghost use Rattle.tpm_caller.specs.Sent.{caller_with, sent, IsSpelled};
 ghost use Rattle.tpm_caller.specs.Plain.{parts_of, PartsFit, IsSentFrom};
-ghost use Rattle.tpm_c.specs.declared.caller.Held.TheVariants.{Sealed, Spent};
-ghost use Rattle.tpm_c.specs.declared.caller.Held.{Held as HeldOf};
-ghost use Rattle.tpm_c.specs.contracts.caller.Held.{the_row};
+ghost use Rattle.tpm_c.specs.declared.caller.CallerState.TheVariants.{Sealed, Spent};
+ghost use Rattle.tpm_c.specs.declared.caller.CallerState.{CallerState as CallerStateOf};
+ghost use Rattle.tpm_c.specs.contracts.caller.CallerState.{the_row};
 ghost use Rattle.tpm_c.specs.Written.{IsIn};
-ghost use Rattle.tpm_c.specs.Callers.{held_at, request_in, start_reply_in, started_by, start_code, after_start};
+ghost use Rattle.tpm_c.specs.Callers.{state_at, request_in, start_reply_in, started_by, start_code, after_start};
 ghost use Rattle.tpm_c.specs.Callers.{fault_number, open_code, kept, after_open, give_up_code, after_give_up};
 ghost use Rattle.tpm_c.specs.Callers.{are_short, do_fit, is_set, seal_of, sealing, sealed_bytes, after_seal};
 
@@ -34,7 +34,7 @@ const NOT_WAITING: u32 = 5;
 
 /// What is held of a session.
 #[derive(Drop)]
-pub(crate) enum Held {
+pub(crate) enum CallerState {
     /// Nothing: none was started, or it has ended.
     Spent,
     /// A session that is free for its next command.
@@ -43,19 +43,19 @@ pub(crate) enum Held {
     Sealed(Pending),
 }
 
-fn nothing() -> Held
+fn nothing() -> CallerState
     ensures { result ≡ Spent }
 {
-    Held::Spent
+    CallerState::Spent
 }
 
 /// Makes a caller in the room, which holds no session.
 #[unsafe(no_mangle)]
 pub unsafe extern "C" fn tpm_caller_init(place: *mut u8)
     requires* { sem 𝓛 (room_at the_row place) }
-    ensures* { sem 𝓛 (held_at Spent place) }
+    ensures* { sem 𝓛 (state_at Spent place) }
 {
-    std::ptr::write(place as *mut Held, nothing());
+    std::ptr::write(place as *mut CallerState, nothing());
 }
 
 // The parameters of this command alone are read, and no command of any code is decoded. It is out of line, as is what
@@ -105,13 +105,13 @@ fn started(command: &[u8], reply: &[u8], bind_auth: &[u8]) -> Option<Caller>
     Caller::start(&request, &reply, bind_auth)
 }
 
-fn start(held: &mut Held, command: &[u8], reply: &[u8], bind_auth: &[u8]) -> u32
+fn start(state: &mut CallerState, command: &[u8], reply: &[u8], bind_auth: &[u8]) -> u32
     ensures { (result ≡ start_code (started_by command.now reply.now bind_auth.now))
-        × (held.new ≡ after_start held.old (started_by command.now reply.now bind_auth.now)) }
+        × (state.new ≡ after_start state.old (started_by command.now reply.now bind_auth.now)) }
 {
     match started(command, reply, bind_auth) {
         Some(caller) => {
-            *held = Held::Free(caller);
+            *state = CallerState::Free(caller);
             1
         }
         None => 0,
@@ -129,13 +129,13 @@ pub unsafe extern "C" fn tpm_caller_start(
     reply: &[u8],
     bind_auth: &[u8],
 ) -> u32
-    ghost held: { HeldOf }
-    requires* { sem 𝓛 (held_at held place) }
+    ghost state: { CallerStateOf }
+    requires* { sem 𝓛 (state_at state place) }
     ensures* { sem 𝓛
-        (held_at (after_start held (started_by command.now reply.now bind_auth.now)) place)
+        (state_at (after_start state (started_by command.now reply.now bind_auth.now)) place)
         ∗ ⌜ result ≡ start_code (started_by command.now reply.now bind_auth.now) ⌝ }
 {
-    start(&mut *(place as *mut Held), command, reply, bind_auth)
+    start(&mut *(place as *mut CallerState), command, reply, bind_auth)
 }
 
 // Neither the first so many of the two Names nor the nonce is too long.
@@ -223,7 +223,7 @@ fn sealed(
 }
 
 fn seal(
-    held: &mut Held,
+    state: &mut CallerState,
     command: &[u8],
     first: &[u8],
     second: &[u8],
@@ -232,7 +232,7 @@ fn seal(
     keep: u32,
     out: &mut [u8],
 ) -> usize
-    ensures { let seal = sealing held.old command.now (record {
+    ensures { let seal = sealing state.old command.now (record {
       first = first.now;
       second = second.now;
       auth = auth.now;
@@ -240,7 +240,7 @@ fn seal(
       keep = is_set keep;
     }) (length out.old) in
         (IsIn (sealed_bytes seal) out.old out.new result × IfSome seal IsSpelled)
-        × (held.new ≡ after_seal held.old seal) }
+        × (state.new ≡ after_seal state.old seal) }
 {
     if out.len() < BUFFER_BYTES {
         return 0;
@@ -251,14 +251,14 @@ fn seal(
     if !do_fit(plain.code().handles(), first, second, nonce) {
         return 0;
     }
-    match std::mem::replace(held, Held::Spent) {
-        Held::Free(caller) => {
+    match std::mem::replace(state, CallerState::Spent) {
+        CallerState::Free(caller) => {
             let (waiting, len) = sealed(caller, &plain, first, second, auth, nonce, keep != 0, out);
-            *held = Held::Sealed(waiting);
+            *state = CallerState::Sealed(waiting);
             len
         }
         other => {
-            *held = other;
+            *state = other;
             0
         }
     }
@@ -283,20 +283,20 @@ pub unsafe extern "C" fn tpm_caller_seal(
     keep: u32,
     out: &mut [u8],
 ) -> usize
-    ghost held: { HeldOf }
-    requires* { sem 𝓛 (held_at held place) }
-    ensures* { let seal = sealing held command.now (record {
+    ghost state: { CallerStateOf }
+    requires* { sem 𝓛 (state_at state place) }
+    ensures* { let seal = sealing state command.now (record {
       first = first.now;
       second = second.now;
       auth = auth.now;
       nonce = nonce.now;
       keep = is_set keep;
     }) (length out.old) in
-        sem 𝓛 (held_at (after_seal held seal) place)
+        sem 𝓛 (state_at (after_seal state seal) place)
         ∗ ⌜ IsIn (sealed_bytes seal) out.old out.new result × IfSome seal IsSpelled ⌝ }
 {
     seal(
-        &mut *(place as *mut Held),
+        &mut *(place as *mut CallerState),
         command,
         first,
         second,
@@ -319,21 +319,21 @@ fn fault_number(fault: CallerFault) -> u32
 }
 
 // What is held after a reply.
-fn kept(caller: Option<Caller>) -> Held
+fn kept(caller: Option<Caller>) -> CallerState
     ensures { result ≡ kept caller }
 {
     match caller {
-        Some(caller) => Held::Free(caller),
-        None => Held::Spent,
+        Some(caller) => CallerState::Free(caller),
+        None => CallerState::Spent,
     }
 }
 
-fn open(held: &mut Held, reply: &[u8]) -> u32
-    ensures { (result ≡ open_code held.old reply.now) × (held.new ≡ after_open held.old reply.now) }
+fn open(state: &mut CallerState, reply: &[u8]) -> u32
+    ensures { (result ≡ open_code state.old reply.now) × (state.new ≡ after_open state.old reply.now) }
 {
-    match judged(held, reply) {
+    match judged(state, reply) {
         Ok(nonce) => {
-            move_on(held, nonce);
+            move_on(state, nonce);
             0
         }
         Err(code) => code,
@@ -342,36 +342,36 @@ fn open(held: &mut Held, reply: &[u8]) -> u32
 
 // The nonceTPM with which the reply opens, or the number of its first fault, or that no command is sealed. What is
 // held stays where it is.
-fn judged<'a>(held: &Held, reply: &'a [u8]) -> Result<&'a [u8], u32>
+fn judged<'a>(state: &CallerState, reply: &'a [u8]) -> Result<&'a [u8], u32>
     ensures ok { IfOk result (λ nonce. (w : Waiting)
-        × (held.now ≡ Sealed w)
+        × (state.now ≡ Sealed w)
         × (x : Opened)
         × (opened w reply.now ≡ Ok x)
         × (x.caller ≡ caller_with w nonce.now)) }
-    ensures err { IfErr result (λ code. (code ≡ open_code held.now reply.now)
-        × (held.now ≡ after_open held.now reply.now)) }
+    ensures err { IfErr result (λ code. (code ≡ open_code state.now reply.now)
+        × (state.now ≡ after_open state.now reply.now)) }
     ensures fits { IfOk result (λ nonce. length nonce.now ≤ digest_bytes) }
 {
-    match held {
-        Held::Sealed(waiting) => match waiting.judge(reply) {
+    match state {
+        CallerState::Sealed(waiting) => match waiting.judge(reply) {
             Ok(nonce) => Ok(nonce),
             Err(fault) => Err(fault_number(fault)),
         },
-        Held::Spent | Held::Free(_) => Err(NOT_WAITING),
+        CallerState::Spent | CallerState::Free(_) => Err(NOT_WAITING),
     }
 }
 
 // What waits for a reply moves on with its nonceTPM.
-fn move_on(held: &mut Held, nonce: &[u8])
+fn move_on(state: &mut CallerState, nonce: &[u8])
     requires { length nonce.now ≤ digest_bytes }
-    ensures { (w : Waiting) → held.old ≡ Sealed w → held.new ≡ kept (caller_with w nonce.now) }
+    ensures { (w : Waiting) → state.old ≡ Sealed w → state.new ≡ kept (caller_with w nonce.now) }
 {
-    match std::mem::replace(held, Held::Spent) {
-        Held::Sealed(waiting) => {
-            *held = kept(waiting.after(nonce));
+    match std::mem::replace(state, CallerState::Spent) {
+        CallerState::Sealed(waiting) => {
+            *state = kept(waiting.after(nonce));
         }
         other => {
-            *held = other;
+            *state = other;
         }
     }
 }
@@ -383,31 +383,31 @@ fn move_on(held: &mut Held, nonce: &[u8])
 /// session's, 4 where the HMAC is not that of the reply; and 5 where no command is sealed.
 #[unsafe(no_mangle)]
 pub unsafe extern "C" fn tpm_caller_open(place: *mut u8, reply: &[u8]) -> u32
-    ghost held: { HeldOf }
-    requires* { sem 𝓛 (held_at held place) }
-    ensures* { sem 𝓛 (held_at (after_open held reply.now) place)
-        ∗ ⌜ result ≡ open_code held reply.now ⌝ }
+    ghost state: { CallerStateOf }
+    requires* { sem 𝓛 (state_at state place) }
+    ensures* { sem 𝓛 (state_at (after_open state reply.now) place)
+        ∗ ⌜ result ≡ open_code state reply.now ⌝ }
 {
-    open(&mut *(place as *mut Held), reply)
+    open(&mut *(place as *mut CallerState), reply)
 }
 
-fn give_up(held: &mut Held, refusal: &[u8]) -> u32
-    ensures { (result ≡ give_up_code held.old refusal.now)
-        × (held.new ≡ after_give_up held.old refusal.now) }
+fn give_up(state: &mut CallerState, refusal: &[u8]) -> u32
+    ensures { (result ≡ give_up_code state.old refusal.now)
+        × (state.new ≡ after_give_up state.old refusal.now) }
 {
-    match std::mem::replace(held, Held::Spent) {
-        Held::Sealed(waiting) => match waiting.give_up(refusal) {
+    match std::mem::replace(state, CallerState::Spent) {
+        CallerState::Sealed(waiting) => match waiting.give_up(refusal) {
             Ok(caller) => {
-                *held = Held::Free(caller);
+                *state = CallerState::Free(caller);
                 1
             }
             Err(waiting) => {
-                *held = Held::Sealed(waiting);
+                *state = CallerState::Sealed(waiting);
                 0
             }
         },
         other => {
-            *held = other;
+            *state = other;
             0
         }
     }
@@ -418,10 +418,10 @@ fn give_up(held: &mut Held, refusal: &[u8]) -> u32
 /// command is sealed.
 #[unsafe(no_mangle)]
 pub unsafe extern "C" fn tpm_caller_give_up(place: *mut u8, refusal: &[u8]) -> u32
-    ghost held: { HeldOf }
-    requires* { sem 𝓛 (held_at held place) }
-    ensures* { sem 𝓛 (held_at (after_give_up held refusal.now) place)
-        ∗ ⌜ result ≡ give_up_code held refusal.now ⌝ }
+    ghost state: { CallerStateOf }
+    requires* { sem 𝓛 (state_at state place) }
+    ensures* { sem 𝓛 (state_at (after_give_up state refusal.now) place)
+        ∗ ⌜ result ≡ give_up_code state refusal.now ⌝ }
 {
-    give_up(&mut *(place as *mut Held), refusal)
+    give_up(&mut *(place as *mut CallerState), refusal)
 }

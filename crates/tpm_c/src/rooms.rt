@@ -4,10 +4,10 @@ ghost use Rattle.std.specs.Prelude.{◌≡◌};
 ghost use Rattle.tpm_device.specs.contracts.device.Device.{the_row as device};
 ghost use Rattle.tpm_stream.specs.contracts.framer.Framer.{the_row as framer};
 ghost use Rattle.tpm_log.specs.contracts.pieces.LogReplay.{the_row as replay};
-ghost use Rattle.tpm_c.specs.contracts.caller.Held.{the_row as held};
+ghost use Rattle.tpm_c.specs.contracts.caller.CallerState.{the_row as state};
 ghost use Rattle.tpm_c.specs.Rooms.{room_size, room_align};
 
-use crate::caller::Held;
+use crate::caller::CallerState;
 use tpm_device::Device;
 use tpm_log::LogReplay;
 use tpm_stream::Framer;
@@ -47,17 +47,17 @@ pub extern "C" fn tpm_framer_align() -> usize
 /// How many bytes a caller takes.
 #[unsafe(no_mangle)]
 pub extern "C" fn tpm_caller_size() -> usize
-    ensures { result ≡ room_size held }
+    ensures { result ≡ room_size state }
 {
-    size_of::<Held>()
+    size_of::<CallerState>()
 }
 
 /// A caller lies at a multiple of so many bytes.
 #[unsafe(no_mangle)]
 pub extern "C" fn tpm_caller_align() -> usize
-    ensures { result ≡ room_align held }
+    ensures { result ≡ room_align state }
 {
-    align_of::<Held>()
+    align_of::<CallerState>()
 }
 
 /// How many bytes a replay takes.

@@ -35,7 +35,7 @@ use Rattle.tpm_caller.specs.declared.waiting.CallerFault.TheVariants as faults
 use Rattle.tpm_caller.specs.Faults.{HasFirstFault}
 use Rattle.tpm_caller.proofs.Opening.{HasMac, only, other_mac}
 use Rattle.tpm_caller.proofs.ReplyParams.{without_auths, raw_behind}
-use Rattle.tpm_caller.specs.inner.Finding.{has_no_params}
+use Rattle.tpm_caller.specs.inner.Checking.{has_no_params}
 
 -- ---- a reply without parameters
 

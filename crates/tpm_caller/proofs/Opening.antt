@@ -34,7 +34,7 @@ use Rattle.tpm_caller.specs.Sent.{caller_with}
 use Rattle.tpm_caller.specs.Faults.{opening_of, HasFirstFault}
 use Rattle.tpm_caller.proofs.ReplyParams.{params_are}
 use Rattle.tpm_caller.specs.declared.waiting.CallerFault.TheVariants as faults
-use Rattle.tpm_caller.specs.inner.Finding.{HasFault, IsSpelledBy, IsTold, OpensWith}
+use Rattle.tpm_caller.specs.inner.Checking.{HasFault, IsSpelledBy, IsTold, OpensWith}
 
 -- ---- the cut of a reply
 

@@ -33,7 +33,7 @@ use Rattle.tpm_model.proofs.Sealing.{okay_is}
 use Rattle.tpm_model.proofs.ReplySessions.{no_handles, from_start, fronted}
 use Rattle.tpm_model.proofs.ReplyBytes.{session_text, reply_bytes, code_at, size_place}
 use Rattle.tpm_model.proofs.Mixed.{one_reply}
-use Rattle.tpm_caller.specs.inner.Finding.{IsSpelledBy}
+use Rattle.tpm_caller.specs.inner.Checking.{IsSpelledBy}
 
 -- ---- the parameters of a cut
 

@@ -1,3 +1,3 @@
 -- Definitions that serve proofs alone: no contract that is handed out names them.
-pub mod Finding
+pub mod Checking
 pub mod Placing

@@ -8,8 +8,8 @@ ghost use Rattle.tpm_buffer.specs.Responses.{code_tag};
 ghost use Rattle.tpm_model.specs.Callers.{Opened, opened, given_up};
 ghost use Rattle.tpm_caller.specs.Faults.{opening_of, giving_up_of, HasFirstFault};
 ghost use Rattle.tpm_caller.specs.Sent.{caller_with};
-ghost use Rattle.tpm_caller.specs.inner.Finding.{has_no_params as has_no_params_of, HasFault, IsFound, IsTold};
-ghost use Rattle.tpm_caller.specs.inner.Finding.{OpensWith};
+ghost use Rattle.tpm_caller.specs.inner.Checking.{has_no_params as has_no_params_of, HasFault, IsChecked, IsTold};
+ghost use Rattle.tpm_caller.specs.inner.Checking.{OpensWith};
 
 use crate::caller::Caller;
 use crate::waiting::CallerFault;
@@ -45,9 +45,9 @@ impl Model for Pending {
     ghost invariant = { λ w. needs_authorization w.code ≡ true };
 }
 
-// What is found in the session of a reply, where the bytes may be none.
+// What the check of the session of a reply says, where the bytes may be none.
 #[derive(Clone, Copy)]
-enum Found<'a> {
+enum Checked<'a> {
     // If they are a reply: its nonceTPM, as there is one session, with a nonceTPM of the session's length and the HMAC.
     Nonce(&'a [u8]),
     // If they are a reply: its first fault.
@@ -110,24 +110,24 @@ fn no_reply(code: CommandCode, bytes: &[u8]) -> Option<CallerFault>
 }
 
 impl Pending {
-    // What is found in the session of a reply. Nothing is copied. What a reply without parameters spells is known: its
+    // Checks the session of a reply. Nothing is copied. What a reply without parameters spells is known: its
     // first fault is found, and it need not be read again.
     #[inline(never)]
-    fn check<'a>(&self, bytes: &'a [u8]) -> Found<'a>
-        ensures { IsFound self.now bytes.now result }
+    fn check<'a>(&self, bytes: &'a [u8]) -> Checked<'a>
+        ensures { IsChecked self.now bytes.now result }
     {
         let Ok(areas) = reply_areas(self.code, bytes) else {
-            return Found::Fault(CallerFault::NotExpected);
+            return Checked::Fault(CallerFault::NotExpected);
         };
         if areas.auth_count() != 1 {
-            return Found::Fault(CallerFault::NotExpected);
+            return Checked::Fault(CallerFault::NotExpected);
         }
         let Some(session) = areas.auth(0) else {
-            return Found::Fault(CallerFault::NotExpected);
+            return Checked::Fault(CallerFault::NotExpected);
         };
         let nonce = session.nonce();
         if nonce.len() != self.caller.nonce().len() {
-            return Found::Fault(CallerFault::NotExpected);
+            return Checked::Fault(CallerFault::NotExpected);
         }
         let hash = self.caller.hash();
         let params = areas.params();
@@ -139,12 +139,12 @@ impl Pending {
             session.attrs(),
         );
         if same(session.hmac(), mac.as_slice()) {
-            return Found::Nonce(nonce);
+            return Checked::Nonce(nonce);
         }
         if has_no_params(self.code) && params.is_empty() {
-            return Found::FirstFault(CallerFault::WrongMac);
+            return Checked::FirstFault(CallerFault::WrongMac);
         }
-        Found::Fault(CallerFault::WrongMac)
+        Checked::Fault(CallerFault::WrongMac)
     }
 
     // The first fault of bytes that have this one if they are a reply.
@@ -171,7 +171,7 @@ impl Pending {
         }
     }
 
-    /// The caller after a reply with this nonceTPM, as `judge` found it, where it is kept.
+    /// The caller after a reply with this nonceTPM, as `judge` answered it, where it is kept.
     pub fn after(self, nonce: &[u8]) -> Option<Caller>
         requires { length nonce.now ≤ digest_bytes }
         ensures { result ≡ caller_with self nonce.now }
@@ -195,12 +195,12 @@ impl Pending {
         ensures fits { IfOk result (λ nonce. length nonce.now ≤ digest_bytes) }
     {
         match self.check(bytes) {
-            Found::Nonce(nonce) => match no_reply(self.code, bytes) {
+            Checked::Nonce(nonce) => match no_reply(self.code, bytes) {
                 None => Ok(nonce),
                 Some(fault) => Err(fault),
             },
-            Found::Fault(fault) => Err(self.first_fault(bytes, fault)),
-            Found::FirstFault(fault) => Err(fault),
+            Checked::Fault(fault) => Err(self.first_fault(bytes, fault)),
+            Checked::FirstFault(fault) => Err(fault),
         }
     }
 
@@ -238,12 +238,12 @@ impl Pending {
         ensures { result ≡ opening_of self (opened self bytes.now) }
     {
         match self.check(bytes) {
-            Found::Nonce(nonce) => self.accept(bytes, nonce),
-            Found::Fault(fault) => {
+            Checked::Nonce(nonce) => self.accept(bytes, nonce),
+            Checked::Fault(fault) => {
                 let first = self.first_fault(bytes, fault);
                 Err((self, first))
             }
-            Found::FirstFault(fault) => Err((self, fault)),
+            Checked::FirstFault(fault) => Err((self, fault)),
         }
     }
 

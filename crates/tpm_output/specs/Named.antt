@@ -1,6 +1,6 @@
 -- Tables of names (this profile).
-use Rattle.std.specs.Prelude.{ℕ, ◌==◌, List, Option, find}
-use Rattle.tpm_output.specs.declared.named.Named.{Named as RustNamed}
+use Rattle.std.specs.Prelude.{ℕ, ◌==◌, List, Option, find, map, option_map}
+use Rattle.std.specs.Borrow.{Bor}
 
 -- a number, and its name
 pub record Named : Type 0 where
@@ -10,8 +10,13 @@ pub record Named : Type 0 where
 abbrev pub named : ℕ → List ℕ → Named
 named number name = record { number = number; name = name }
 
-abbrev pub named_as : RustNamed → Named
-named_as n = named n.number n.name.now
+-- a row of a table, and the tables that the code has
+abbrev pub row_as : ℕ × Bor (List ℕ) → Named
+row_as row = named row.0 row.1.now
 
-unfoldable pub named_in : List Named → ℕ → Option Named
-named_in table number = find (λ n. n.number == number) table
+abbrev pub table_as : List (ℕ × record { now : List ℕ }) → List Named
+table_as table = map (λ row. named row.0 row.1.now) table
+
+-- the name that a table has for a number
+unfoldable pub named_in : List Named → ℕ → Option (List ℕ)
+named_in table number = option_map (λ n. n.name) (find (λ n. n.number == number) table)

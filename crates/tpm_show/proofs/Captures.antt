@@ -10,7 +10,7 @@ use Rattle.tpm_output.specs.LineSinks.{GoesOn, IsWhole, ReadsLines, TakesAll, Ta
 use Rattle.tpm_output.specs.Status.{both}
 use Rattle.tpm_show.specs.declared.telling.Telling.{Telling}
 use Rattle.tpm_show.specs.declared.capture.Capture.{Capture}
-use Rattle.tpm_show.specs.Capture.{Line, CapturePlace, start, behind, told_in, line_of, most_line, most_bytes, without_blanks}
+use Rattle.tpm_show.specs.Capture.{CaptureLine, CapturePlace, start, behind, told_in, line_of, most_line, most_bytes, without_blanks}
 use Rattle.tpm_show.specs.Capture.{TellsLine, TellsFrom, TellsCapture, TellsEnded, ReadsAll}
 use Rattle.tpm_show.specs.inner.Capturing.{place, behind_all, capture_line, TellsNext, TellsStep}
 use Rattle.tpm_show.specs.Capture as specs
@@ -27,11 +27,11 @@ both_done Refused = refl
 
 -- ---- lines that are told
 
-pub behind_all-append : (p : CapturePlace) (xs ys : List Line) → behind_all p (xs ++ ys) ≡ behind_all (behind_all p xs) ys
+pub behind_all-append : (p : CapturePlace) (xs ys : List CaptureLine) → behind_all p (xs ++ ys) ≡ behind_all (behind_all p xs) ys
 behind_all-append p [] ys = refl
 behind_all-append p (x ∷ xs) ys = behind_all-append (behind p x) xs ys
 
-pub tells_both : (p : CapturePlace) (xs ys : List Line) (s t : Status) (a b : List ℕ) → TellsFrom p xs s a → TellsFrom (behind_all p xs) ys t b
+pub tells_both : (p : CapturePlace) (xs ys : List CaptureLine) (s t : Status) (a b : List ℕ) → TellsFrom p xs s a → TellsFrom (behind_all p xs) ys t b
     → TellsFrom p (xs ++ ys) (both s t) (a ++ b)
 tells_both p [] ys s t a b f g = rw (f.0, f.1) g
 tells_both p (x ∷ xs) ys s t a b f g = (
@@ -45,7 +45,7 @@ tells_both p (x ∷ xs) ys s t a b f g = (
   rw f.7 (append_assoc f.1 f.3 b),
 )
 
-pub tells_one : (p : CapturePlace) (l : Line) (s : Status) (a : List ℕ) → TellsLine p l s a → TellsFrom p (l ∷ []) s a
+pub tells_one : (p : CapturePlace) (l : CaptureLine) (s : Status) (a : List ℕ) → TellsLine p l s a → TellsFrom p (l ∷ []) s a
 tells_one p l s a f = (s, a, Done, [], f, (refl, refl), sym (both_done s), sym (append-nil a))
 
 -- ---- a line of which no more is kept than one byte too many
@@ -70,14 +70,14 @@ takes_kept n old new line Added f = λ whole same.
     record {
       status = f.status;
       text = f.text;
-      tells = subst (λ (l : Line). TellsLine (place old) l f.status f.text) is f.tells;
+      tells = subst (λ (l : CaptureLine). TellsLine (place old) l f.status f.text) is f.tells;
       added = refl;
       place = f.place ∙ ap (behind (place old)) is;
       all = f.all;
     }
 
 -- A line has no more than one frame.
-pub behind-most : (p : CapturePlace) (l : Line) → (behind p l).number ≤ p.number + 1
+pub behind-most : (p : CapturePlace) (l : CaptureLine) → (behind p l).number ≤ p.number + 1
 behind-most p specs.Nothing = omega arith
 behind-most p (specs.Frame mark bytes) = omega arith
 behind-most p specs.NotHexadecimal = omega arith

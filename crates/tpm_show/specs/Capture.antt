@@ -29,13 +29,13 @@ use Rattle.tpm_show.specs.declared.capture_frames.Awaited.TheVariants as awaits
 -- ---- what a line has
 
 -- a frame with its mark, `>` for a command and `<` for a reply, where it has one
-pub data Line : Type 0 where
-  Nothing : Line
-  Frame : (mark : Option Direction) → (bytes : List ℕ) → Line
-  NotHexadecimal : Line
-  TooLong : Line
+pub data CaptureLine : Type 0 where
+  Nothing : CaptureLine
+  Frame : (mark : Option Direction) → (bytes : List ℕ) → CaptureLine
+  NotHexadecimal : CaptureLine
+  TooLong : CaptureLine
 
-abbrev pub frame_of : Option Direction → Option (List ℕ) → Line
+abbrev pub frame_of : Option Direction → Option (List ℕ) → CaptureLine
 frame_of mark (Some bytes) = Frame mark bytes
 frame_of mark None = NotHexadecimal
 
@@ -44,7 +44,7 @@ abbrev pub most_line : ℕ
 most_line = 8195
 
 -- What stands behind `#` is a comment.
-abbrev pub told_in : List ℕ → Line
+abbrev pub told_in : List ℕ → CaptureLine
 told_in [] = Nothing
 told_in (first ∷ rest) =
     if first == 35 then Nothing
@@ -53,7 +53,7 @@ told_in (first ∷ rest) =
     else if first == 60 then frame_of (Some Reply) (bytes_in (without_prefix rest))
     else frame_of None (bytes_in (without_prefix (first ∷ rest)))
 
-abbrev pub line_of : List ℕ → Line
+abbrev pub line_of : List ℕ → CaptureLine
 line_of text = told_in (without_blanks text)
 
 -- ---- which way a frame went
@@ -160,7 +160,7 @@ no_passage = record { connection = 0; stamp = None }
 abbrev pub start : Telling → CapturePlace
 start how = record { how = how; number = 1; awaited = awaits.Nothing; passage = no_passage }
 
-abbrev pub behind : CapturePlace → Line → CapturePlace
+abbrev pub behind : CapturePlace → CaptureLine → CapturePlace
 behind p Nothing = p
 behind p (Frame mark bytes) =
     record p { number = p.number + 1; awaited = awaited_behind (direction_of mark p.awaited bytes) bytes }
@@ -170,7 +170,7 @@ abbrev pub frame_at : CapturePlace → (bytes : List ℕ) → FrameAt
 frame_at p bytes =
     record { bytes = bytes; awaited = p.awaited; passage = p.passage; fields = p.how.fields }
 
-abbrev pub TellsLine : CapturePlace → Line → Status → List ℕ → Type 0
+abbrev pub TellsLine : CapturePlace → CaptureLine → Status → List ℕ → Type 0
 TellsLine p Nothing status text = (status ≡ Done) × (text ≡ [])
 TellsLine p (Frame mark bytes) status text =
     let direction = direction_of mark p.awaited bytes in
@@ -183,7 +183,7 @@ TellsLine p TooLong status text =
     (status ≡ Refused) × IsReport p.how.json (fault_report p.number (codes "too long")) text
 
 -- From this place the lines are told one after the other. All is done where each is.
-abbrev pub TellsFrom : CapturePlace → List Line → Status → List ℕ → Type 0
+abbrev pub TellsFrom : CapturePlace → List CaptureLine → Status → List ℕ → Type 0
 TellsFrom p [] status text = (status ≡ Done) × (text ≡ [])
 TellsFrom p (first ∷ others) status text = (one : Status) × (told : List ℕ) × (rest : Status) × (more : List ℕ)
     × TellsLine p first one told

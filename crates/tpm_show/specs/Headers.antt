@@ -8,7 +8,8 @@ use Rattle.tpm_wire.specs.Token.{Here, at_start}
 use Rattle.tpm_wire.specs.Layout.Form.{field, done}
 use Rattle.tpm_wire.specs.Reading.{read}
 use Rattle.tpm_wire.specs.Buffers.{Layout, any_number}
-use Rattle.tpm_output.specs.Named.{Named, named, named_in}
+use Rattle.tpm_output.specs.Named.{Named, named_in, table_as}
+use Rattle.tpm_show.specs.declared.frame_header.TheConstants.{TAG_NAMES}
 use Rattle.tpm_show.specs.declared.frame_header.FrameHeader.{FrameHeader}
 use Rattle.tpm_show.specs.CommandNames.{Listed, command_of}
 use Rattle.tpm_names.specs.Codes.{code_name, meaning_of}
@@ -40,12 +41,7 @@ header_in bytes =
 
 -- TPM_ST (Part 2, 6.9)
 abbrev pub tag_names : List Named
-tag_names =
-    named 0x00c4 (codes "TPM_ST_RSP_COMMAND") ∷
-    named 0x8000 (codes "TPM_ST_NULL") ∷
-    named 0x8001 (codes "TPM_ST_NO_SESSIONS") ∷
-    named 0x8002 (codes "TPM_ST_SESSIONS") ∷
-    []
+tag_names = table_as TAG_NAMES
 
 -- the name of a command of the library, or the number of any other
 abbrev pub name_or_number : Option Listed → ℕ → Value
@@ -71,9 +67,9 @@ code_in_line (Some m) code = InLine how.Asked (Word (code_name code m)) ∷ []
 abbrev pub command_told : ℕ → Piece
 command_told code = says how.Behind (codes "command") (name_or_number (command_of code) code)
 
-abbrev pub tag_name : Option Named → List Piece
+abbrev pub tag_name : Option (List ℕ) → List Piece
 tag_name None = []
-tag_name (Some n) = says how.Asked (codes "tag_name") (Word n.name) ∷ []
+tag_name (Some name) = says how.Asked (codes "tag_name") (Word name) ∷ []
 
 unfoldable pub size_and_tag : FrameHeader → List Piece
 size_and_tag h = says how.Under (codes "size") (Number h.size)

@@ -10,7 +10,8 @@ use Rattle.tpm_types.specs.Tpm2b.{digest}
 use Rattle.tpm_types.specs.Tpma.{nv_type}
 use Rattle.tpm_types.specs.Tpms.{selection, is_selected, nv_public_area}
 use Rattle.tpm_types.specs.Tpmt.{digest_value, sym_def}
-use Rattle.tpm_output.specs.Named.{Named, named as numbered}
+use Rattle.tpm_output.specs.Named.{Named, table_as}
+use Rattle.tpm_show.specs.declared.parts.TheConstants.{ATTRIBUTES}
 use Rattle.tpm_show.specs.Bits.{bits_set}
 use Rattle.tpm_commands.specs.Row.{Field, named}
 use Rattle.tpm_show.specs.FieldText.{fields_from, number_told, parts, structure_told, value_told}
@@ -20,29 +21,7 @@ use Rattle.tpm_show.specs.Pieces.{Piece}
 
 -- its bits by their numbers
 abbrev pub attribute_names : List Named
-attribute_names =
-    numbered 0 (text "TPMA_NV_PPWRITE") ∷
-    numbered 1 (text "TPMA_NV_OWNERWRITE") ∷
-    numbered 2 (text "TPMA_NV_AUTHWRITE") ∷
-    numbered 3 (text "TPMA_NV_POLICYWRITE") ∷
-    numbered 10 (text "TPMA_NV_POLICY_DELETE") ∷
-    numbered 11 (text "TPMA_NV_WRITELOCKED") ∷
-    numbered 12 (text "TPMA_NV_WRITEALL") ∷
-    numbered 13 (text "TPMA_NV_WRITEDEFINE") ∷
-    numbered 14 (text "TPMA_NV_WRITE_STCLEAR") ∷
-    numbered 15 (text "TPMA_NV_GLOBALLOCK") ∷
-    numbered 16 (text "TPMA_NV_PPREAD") ∷
-    numbered 17 (text "TPMA_NV_OWNERREAD") ∷
-    numbered 18 (text "TPMA_NV_AUTHREAD") ∷
-    numbered 19 (text "TPMA_NV_POLICYREAD") ∷
-    numbered 25 (text "TPMA_NV_NO_DA") ∷
-    numbered 26 (text "TPMA_NV_ORDERLY") ∷
-    numbered 27 (text "TPMA_NV_CLEAR_STCLEAR") ∷
-    numbered 28 (text "TPMA_NV_READLOCKED") ∷
-    numbered 29 (text "TPMA_NV_WRITTEN") ∷
-    numbered 30 (text "TPMA_NV_PLATFORMCREATE") ∷
-    numbered 31 (text "TPMA_NV_READ_STCLEAR") ∷
-    []
+attribute_names = table_as ATTRIBUTES
 
 abbrev pub set_attribute : Named → List Piece
 set_attribute bit = number_told (text "      ") bit.name 1

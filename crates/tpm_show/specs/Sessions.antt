@@ -3,10 +3,11 @@ use Rattle.std.specs.Prelude.{ℕ, ◌+◌, List, [], ◌∷◌, ◌++◌, codes
 use Rattle.std.specs.Int.{to_be_bytes, w32}
 use Rattle.tpm_types.specs.declared.tpms.Auth.{Auth}
 use Rattle.tpm_types.specs.declared.tpms.AuthReply.{AuthReply}
-use Rattle.tpm_output.specs.Named.{Named, named}
+use Rattle.tpm_output.specs.Named.{Named, table_as}
 use Rattle.tpm_show.specs.declared.piece.How.{How}
 use Rattle.tpm_show.specs.declared.piece.How.TheVariants as how
 use Rattle.tpm_show.specs.declared.piece.Shape.TheVariants as shape
+use Rattle.tpm_show.specs.declared.sessions.TheConstants.{ATTRIBUTES}
 use Rattle.tpm_show.specs.Bits.{bits_set}
 use Rattle.tpm_show.specs.HandleNames.{handle_named}
 use Rattle.tpm_show.specs.Pieces.{Word, Number, Bytes, Piece, Says, InLine, Opens, Closes, line_end, list_told, says}
@@ -29,14 +30,7 @@ of_reply auth = record { handle = None; nonce = auth.nonce; attributes = auth.at
 
 -- its bits by their numbers
 abbrev pub attribute_names : List Named
-attribute_names =
-    named 0 (codes "continueSession") ∷
-    named 1 (codes "auditExclusive") ∷
-    named 2 (codes "auditReset") ∷
-    named 5 (codes "decrypt") ∷
-    named 6 (codes "encrypt") ∷
-    named 7 (codes "audit") ∷
-    []
+attribute_names = table_as ATTRIBUTES
 
 -- those that are set
 unfoldable pub attributes_set : ℕ → List Named
@@ -44,9 +38,9 @@ attributes_set attributes = bits_set attribute_names attributes
 
 -- ---- what is told of a session
 
-abbrev pub name_told : Option Named → List Piece
+abbrev pub name_told : Option (List ℕ) → List Piece
 name_told None = []
-name_told (Some n) = says how.Asked (codes "session_name") (Word n.name) ∷ []
+name_told (Some name) = says how.Asked (codes "session_name") (Word name) ∷ []
 
 abbrev pub handle_told : Option ℕ → List Piece
 handle_told None = []

@@ -9,7 +9,7 @@ use Rattle.tpm_output.specs.declared.status.Status.{Status}
 use Rattle.tpm_output.specs.Status.{both}
 use Rattle.tpm_show.specs.declared.telling.Telling.{Telling}
 use Rattle.tpm_show.specs.Reports.{IsReportOrNothing, Report, stop_report}
-use Rattle.tpm_show.specs.Capture.{Line, Frame, start, TellsFrom}
+use Rattle.tpm_show.specs.Capture.{CaptureLine, Frame, start, TellsFrom}
 
 -- how a stream goes on behind its last frame: not at all, with less than a frame, or with a size that no frame has
 pub data Ending : Type 0 where
@@ -32,7 +32,7 @@ abbrev pub ending_status : Ending → Status
 ending_status AtEnd = Done
 ending_status _ = Refused
 
-abbrev pub unmarked_frame : List ℕ → Line
+abbrev pub unmarked_frame : List ℕ → CaptureLine
 unmarked_frame bytes = Frame None bytes
 
 -- For these bytes of a stream this is the status and what is printed: its frames are told as those of a capture

@@ -18,7 +18,7 @@ ghost use Rattle.tpm_show.specs.Reports.{IsObjectLine, IsReport, fault_report, f
 ghost use Rattle.tpm_show.specs.Reports.{kind_of, mark_of};
 
 use crate::capture_frames::{Awaited, FrameAt, awaited_behind, direction_of, tell_frame};
-use crate::capture_lines::{Direction, Line, MOST_LINE, read_line};
+use crate::capture_lines::{CaptureLine, Direction, MOST_LINE, read_line};
 use crate::digits::is_blank;
 use crate::lines::Lines;
 use crate::object::Object;
@@ -216,16 +216,21 @@ impl Capture {
         Ok(())
     }
 
-    fn tell(&mut self, alloc: Global, line: &Line, text: &mut String) -> Pushed
+    fn tell(&mut self, alloc: Global, line: &CaptureLine, text: &mut String) -> Pushed
         requires { self.old.number + 1 < 2 ^ 64 }
         ensures { OnOk result (TellsNext (read_as line.now) self.old self.new
             (AddedTo (string_bytes text.old) (string_bytes text.new))) }
     {
         match line {
-            Line::Nothing => Ok(()),
-            Line::Frame(mark, bytes) => self.tell_frame(alloc, *mark, bytes.as_slice(), text),
-            Line::NotHexadecimal => self.tell_fault(alloc, text, "not hexadecimal"),
-            Line::TooLong => self.tell_fault(alloc, text, "too long"),
+            CaptureLine::Nothing => Ok(()),
+            CaptureLine::Frame(mark, bytes) => self.tell_frame(
+                alloc,
+                *mark,
+                bytes.as_slice(),
+                text,
+            ),
+            CaptureLine::NotHexadecimal => self.tell_fault(alloc, text, "not hexadecimal"),
+            CaptureLine::TooLong => self.tell_fault(alloc, text, "too long"),
         }
     }
 

@@ -24,7 +24,7 @@ pub(crate) enum Direction {
 
 /// What a line of a capture has.
 #[derive(Drop)]
-pub(crate) enum Line {
+pub(crate) enum CaptureLine {
     /// No frame: it is empty, or a comment.
     Nothing,
     /// A frame, and its mark where it has one.
@@ -35,28 +35,32 @@ pub(crate) enum Line {
     TooLong,
 }
 
-fn read_frame(alloc: Global, mark: Option<Direction>, text: &[u8]) -> Result<Line, AllocError>
+fn read_frame(
+    alloc: Global,
+    mark: Option<Direction>,
+    text: &[u8],
+) -> Result<CaptureLine, AllocError>
     ensures { IfOk result (λ line. read_as line
         ≡ frame_of mark (bytes_in (without_prefix text.now))) }
 {
     match decoded(alloc, without_prefix(text))? {
-        Some(bytes) => Ok(Line::Frame(mark, bytes)),
-        None => Ok(Line::NotHexadecimal),
+        Some(bytes) => Ok(CaptureLine::Frame(mark, bytes)),
+        None => Ok(CaptureLine::NotHexadecimal),
     }
 }
 
 /// What a line without its blanks has.
-pub(crate) fn read_line(alloc: Global, text: &[u8]) -> Result<Line, AllocError>
+pub(crate) fn read_line(alloc: Global, text: &[u8]) -> Result<CaptureLine, AllocError>
     ensures { IfOk result (λ line. read_as line ≡ told_in text.now) }
 {
     let Some((first, rest)) = text.split_first() else {
-        return Ok(Line::Nothing);
+        return Ok(CaptureLine::Nothing);
     };
     if *first == b'#' {
-        return Ok(Line::Nothing);
+        return Ok(CaptureLine::Nothing);
     }
     if text.len() > MOST_LINE {
-        return Ok(Line::TooLong);
+        return Ok(CaptureLine::TooLong);
     }
     match *first {
         b'>' => read_frame(alloc, Some(Direction::Command), rest),

@@ -1,15 +1,15 @@
 //! The names that Part 2 gives to numbers, by the types of the fields that they stand in.
 
 ghost use Rattle.std.specs.Prelude.{◌≡◌, ◌++◌, IfOk, map, option_map, string_bytes};
-ghost use Rattle.tpm_output.specs.Named.{named_as};
+ghost use Rattle.tpm_output.specs.Named.{row_as};
 ghost use Rattle.tpm_show.specs.inner.CommandNames.{listed_as};
-ghost use Rattle.tpm_show.specs.FieldNames.{algorithms, command_in, command_text, is_handle, name_of, name_text};
+ghost use Rattle.tpm_show.specs.FieldNames.{algorithms, command_in, command_text, is_handle, name_of};
 ghost use Rattle.tpm_show.specs.FieldNames.{named_of, names_for, number_in, session_types, startup_types, value_name};
 
 use crate::command_names::{Listed, command_of};
 use crate::handle_names::handle_name;
 use std::alloc::{AllocError, Global};
-use tpm_output::named::{Named, look_up};
+use tpm_output::named::{Row, look_up};
 use tpm_output::names;
 
 /// A name of two parts.
@@ -30,7 +30,7 @@ impl ValueName {
 }
 
 // TPM_ALG_ID (Part 2, 6.3)
-const ALGORITHMS: [Named; 39] = names![
+const ALGORITHMS: [Row; 39] = names![
     0x0001 "TPM_ALG_RSA",
     0x0003 "TPM_ALG_TDES",
     0x0004 "TPM_ALG_SHA1",
@@ -73,10 +73,10 @@ const ALGORITHMS: [Named; 39] = names![
 ];
 
 // TPM_SU (Part 2, 6.10)
-const STARTUP_TYPES: [Named; 2] = names![0x0000 "TPM_SU_CLEAR", 0x0001 "TPM_SU_STATE",];
+const STARTUP_TYPES: [Row; 2] = names![0x0000 "TPM_SU_CLEAR", 0x0001 "TPM_SU_STATE",];
 
 // TPM_SE (Part 2, 6.11)
-const SESSION_TYPES: [Named; 3] = names![
+const SESSION_TYPES: [Row; 3] = names![
     0x00 "TPM_SE_HMAC",
     0x01 "TPM_SE_POLICY",
     0x03 "TPM_SE_TRIAL",
@@ -84,8 +84,8 @@ const SESSION_TYPES: [Named; 3] = names![
 
 // The table for a type, which is empty for any other.
 #[tactic(auto, unfolding(crate::specs::FieldNames::names_for))]
-fn names_for(kind: &str) -> &'static [Named]
-    ensures { map named_as result.now ≡ names_for kind.now }
+fn names_for(kind: &str) -> &'static [Row]
+    ensures { map row_as result.now ≡ names_for kind.now }
 {
     if kind == "TPMI_ALG_HASH" {
         &ALGORITHMS
@@ -121,8 +121,8 @@ fn is_handle(kind: &str) -> bool
 }
 
 #[tactic(auto, unfolding(crate::specs::FieldNames::named_of))]
-fn named_of(kind: &str, number: u32) -> Option<&'static Named>
-    ensures { option_map (λ n. named_as n.now) result ≡ named_of kind.now number }
+fn named_of(kind: &str, number: u32) -> Option<&'static str>
+    ensures { option_map (λ name. name.now) result ≡ named_of kind.now number }
 {
     if is_handle(kind) {
         return handle_name(number);
@@ -131,8 +131,8 @@ fn named_of(kind: &str, number: u32) -> Option<&'static Named>
 }
 
 // The name of a number of this type.
-fn name_of(kind: &str, bytes: &[u8]) -> Option<&'static Named>
-    ensures { option_map (λ n. named_as n.now) result ≡ name_of kind.now bytes.now }
+fn name_of(kind: &str, bytes: &[u8]) -> Option<&'static str>
+    ensures { option_map (λ name. name.now) result ≡ name_of kind.now bytes.now }
 {
     match number_in(bytes) {
         Some(number) => named_of(kind, number),
@@ -150,15 +150,12 @@ fn command_in(bytes: &[u8]) -> Option<&'static Listed>
     }
 }
 
-fn name_text(named: Option<&'static Named>) -> Option<ValueName>
+fn name_alone(name: Option<&'static str>) -> Option<ValueName>
     ensures { option_map (λ name. name.front.now ++ name.name.now) result
-        ≡ name_text (option_map (λ n. named_as n.now) named.entry) }
+        ≡ option_map (λ name. name.now) name.entry }
 {
-    match named {
-        Some(named) => Some(ValueName {
-            front: "",
-            name: named.name,
-        }),
+    match name {
+        Some(name) => Some(ValueName { front: "", name }),
         None => None,
     }
 }
@@ -185,5 +182,5 @@ pub(crate) fn value_name(kind: &str, bytes: &[u8]) -> Option<ValueName>
     if kind == "TPM_CC" {
         return command_text(command_in(bytes));
     }
-    name_text(name_of(kind, bytes))
+    name_alone(name_of(kind, bytes))
 }

@@ -2,7 +2,7 @@
 
 ghost use Rattle.std.specs.Prelude.{◌≡◌, ◌++◌, IfOk, OnOk, flat_map, option_map, string_bytes};
 ghost use Rattle.tpm_wire.specs.Buffers.{Takes};
-ghost use Rattle.tpm_output.specs.Named.{named_as, named_in};
+ghost use Rattle.tpm_output.specs.Named.{named_in};
 ghost use Rattle.tpm_names.specs.Codes.{code_name, meaning_of};
 ghost use Rattle.tpm_names.specs.Meanings.{meaning_as};
 ghost use Rattle.tpm_show.specs.Headers.{answered, code_behind, code_in_line, code_told, command_head, command_told};
@@ -15,7 +15,7 @@ use crate::teller::{Teller, tell_pieces};
 use std::alloc::{AllocError, Global};
 use tpm_names::codes::code_meaning;
 use tpm_names::meaning::Meaning;
-use tpm_output::named::{Named, look_up};
+use tpm_output::named::{Row, look_up};
 use tpm_output::names;
 use tpm_output::text::Pushed;
 use tpm_wire::{Cursor, Refusal, Wire};
@@ -31,7 +31,7 @@ pub(crate) struct FrameHeader {
 }
 
 // TPM_ST (Part 2, 6.9)
-const TAG_NAMES: [Named; 4] = names![
+const TAG_NAMES: [Row; 4] = names![
     0x00c4 "TPM_ST_RSP_COMMAND",
     0x8000 "TPM_ST_NULL",
     0x8001 "TPM_ST_NO_SESSIONS",
@@ -121,8 +121,8 @@ pub(crate) fn tell_code_in_line<T: Teller>(teller: &mut T, code: u32) -> Pushed
 
 // ---- a header
 
-fn tag_name(tag: u16) -> Option<&'static Named>
-    ensures { option_map (λ n. named_as n.now) result ≡ named_in tag_names tag }
+fn tag_name(tag: u16) -> Option<&'static str>
+    ensures { option_map (λ name. name.now) result ≡ named_in tag_names tag }
 {
     look_up(&TAG_NAMES, tag as u32)
 }
@@ -132,7 +132,7 @@ fn tell_tag_name<T: Teller>(teller: &mut T, tag: u16) -> Pushed
         ≡ T.told teller.old ++ flat_map T.marks (tag_name (named_in tag_names tag))) }
 {
     match tag_name(tag) {
-        Some(named) => teller.tell(&says!(Asked "tag_name" Word named.name)),
+        Some(name) => teller.tell(&says!(Asked "tag_name" Word name)),
         None => Ok(()),
     }
 }

@@ -1,18 +1,17 @@
 //! Handles by the names that Part 2 gives them.
 
 ghost use Rattle.std.specs.Prelude.{◌≡◌, ◌++◌, OnOk, flat_map, map, option_map};
-ghost use Rattle.tpm_output.specs.Named.{named_as};
 ghost use Rattle.tpm_show.specs.HandleNames.{handle_name, handle_named, handle_told, handles_from, handles_told};
 ghost use Rattle.tpm_show.specs.HandleNames.{name_in_line};
 
 use crate::piece::{How, LINE_END, Piece, Shape, Value, in_line};
 use crate::teller::{Teller, tell_pieces};
-use tpm_output::named::{Named, look_up};
+use tpm_output::named::{Row, look_up};
 use tpm_output::names;
 use tpm_output::text::Pushed;
 
 // Permanent handles, TPM_RH (Part 2, 7.4).
-const PERMANENT: [Named; 32] = names![
+const PERMANENT: [Row; 32] = names![
     0x40000000 "TPM_RH_SRK",
     0x40000001 "TPM_RH_OWNER",
     0x40000002 "TPM_RH_REVOKE",
@@ -48,7 +47,7 @@ const PERMANENT: [Named; 32] = names![
 ];
 
 // Kinds of handles by their most significant byte, TPM_HT (Part 2, 7.2).
-const KINDS: [Named; 8] = names![
+const KINDS: [Row; 8] = names![
     0x00 "TPM_HT_PCR",
     0x01 "TPM_HT_NV_INDEX",
     0x02 "TPM_HT_HMAC_SESSION",
@@ -61,11 +60,11 @@ const KINDS: [Named; 8] = names![
 
 /// The name of a permanent handle, or that of a handle's kind, where Part 2 has one.
 #[tactic(auto, unfolding(crate::specs::HandleNames::handle_named))]
-pub(crate) fn handle_name(handle: u32) -> Option<&'static Named>
-    ensures { option_map (λ n. named_as n.now) result ≡ handle_named handle }
+pub(crate) fn handle_name(handle: u32) -> Option<&'static str>
+    ensures { option_map (λ name. name.now) result ≡ handle_named handle }
 {
     match look_up(&PERMANENT, handle) {
-        Some(named) => Some(named),
+        Some(name) => Some(name),
         None => look_up(&KINDS, handle >> 24),
     }
 }
@@ -78,7 +77,7 @@ fn tell_name_in_line<T: Teller>(teller: &mut T, handle: u32) -> Pushed
         ≡ T.told teller.old ++ flat_map T.marks (name_in_line (handle_named handle))) }
 {
     match handle_name(handle) {
-        Some(named) => teller.tell(&in_line!(Asked Word named.name)),
+        Some(name) => teller.tell(&in_line!(Asked Word name)),
         None => Ok(()),
     }
 }
@@ -112,7 +111,7 @@ fn tell_name<T: Teller>(teller: &mut T, handle: u32) -> Pushed
         (T.told teller.new ≡ T.told teller.old ++ T.marks (handle_name handle)) }
 {
     match handle_name(handle) {
-        Some(named) => teller.tell(&Piece::Says(How::Nowhere, None, Value::Word(named.name))),
+        Some(name) => teller.tell(&Piece::Says(How::Nowhere, None, Value::Word(name))),
         None => teller.tell(&Piece::Says(How::Nowhere, None, Value::Null)),
     }
 }

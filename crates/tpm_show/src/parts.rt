@@ -4,7 +4,7 @@ ghost use Rattle.std.specs.Prelude.{◌≡◌, ◌++◌, ◌<◌, List, OnOk, co
 ghost use Rattle.std.specs.Int.{bytes_high_first};
 ghost use Rattle.std.specs.List.{AllByRecursion};
 ghost use Rattle.tpm_types.specs.Tpma.{nv_type};
-ghost use Rattle.tpm_output.specs.Named.{named_as};
+ghost use Rattle.tpm_output.specs.Named.{row_as};
 ghost use Rattle.tpm_show.specs.Bits.{bits_set};
 ghost use Rattle.tpm_show.specs.Parts.{attribute_parts, attributes_set, digest_entry, digest_value_entry};
 ghost use Rattle.tpm_show.specs.Parts.{digest_value_members, public_parts, register_parts, selection_entry};
@@ -17,7 +17,7 @@ use crate::bits::is_set;
 use crate::field::{Field, HasParts};
 use crate::field_text::{begin_structure, end_structure, tell_number, tell_value};
 use crate::teller::Teller;
-use tpm_output::named::Named;
+use tpm_output::named::Row;
 use tpm_output::names;
 use tpm_output::text::Pushed;
 use tpm_types::{
@@ -28,7 +28,7 @@ use tpm_wire::{Counted, Duplicate, Wire};
 // ---- TPMA_NV (Part 2, 13.4)
 
 // Its bits by their numbers.
-const ATTRIBUTES: [Named; 21] = names![
+const ATTRIBUTES: [Row; 21] = names![
     0 "TPMA_NV_PPWRITE",
     1 "TPMA_NV_OWNERWRITE",
     2 "TPMA_NV_AUTHWRITE",
@@ -53,14 +53,15 @@ const ATTRIBUTES: [Named; 21] = names![
 ];
 
 // Tells each bit of the table that is set.
-fn tell_bits<T: Teller>(teller: &mut T, table: &'static [Named], attrs: u32) -> Pushed
-    requires { AllByRecursion (λ bit. bit.number < 32) table.now }
+fn tell_bits<T: Teller>(teller: &mut T, table: &'static [Row], attrs: u32) -> Pushed
+    requires { AllByRecursion (λ bit. bit.0 < 32) table.now }
     ensures { OnOk result (T.told teller.new ≡ T.told teller.old
-        ++ flat_map T.marks (flat_map set_attribute (bits_set (map named_as table.now) attrs))) }
+        ++ flat_map T.marks (flat_map set_attribute (bits_set (map row_as table.now) attrs))) }
 {
     for bit in table {
-        if is_set(attrs, bit.number) {
-            tell_number(teller, "      ", bit.name, 1)?;
+        let (number, name) = *bit;
+        if is_set(attrs, number) {
+            tell_number(teller, "      ", name, 1)?;
         }
     }
     Ok(())

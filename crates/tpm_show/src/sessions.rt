@@ -2,7 +2,7 @@
 
 ghost use Rattle.std.specs.Prelude.{◌≡◌, ◌++◌, ◌<◌, List, OnOk, flat_map, length, map, slice_get};
 ghost use Rattle.std.specs.List.{AllByRecursion};
-ghost use Rattle.tpm_output.specs.Named.{named_as};
+ghost use Rattle.tpm_output.specs.Named.{row_as};
 ghost use Rattle.tpm_show.specs.Bits.{bits_set};
 ghost use Rattle.tpm_show.specs.HandleNames.{handle_named};
 ghost use Rattle.tpm_show.specs.Sessions.{ShownSession, attributes_set, attributes_told, handle_told, name_told};
@@ -16,13 +16,13 @@ use crate::piece::{How, LINE_END, Piece, Shape, Value, in_line, says};
 use crate::teller::{Teller, tell_pieces};
 use std::marker::Model;
 use tpm_buffer::{Areas, AuthRef, ReplyAreas};
-use tpm_output::named::Named;
+use tpm_output::named::Row;
 use tpm_output::names;
 use tpm_output::text::Pushed;
 use tpm_types::AuthReply;
 
 // The bits of TPMA_SESSION (Part 2, 8.4) by their numbers.
-const ATTRIBUTES: [Named; 6] = names![
+const ATTRIBUTES: [Row; 6] = names![
     0 "continueSession",
     1 "auditExclusive",
     2 "auditReset",
@@ -145,7 +145,7 @@ fn tell_name<T: Teller>(teller: &mut T, handle: u32) -> Pushed
         ≡ T.told teller.old ++ flat_map T.marks (name_told (handle_named handle))) }
 {
     match handle_name(handle) {
-        Some(named) => teller.tell(&says!(Asked "session_name" Word named.name)),
+        Some(name) => teller.tell(&says!(Asked "session_name" Word name)),
         None => Ok(()),
     }
 }
@@ -164,15 +164,16 @@ fn tell_handle<T: Teller>(teller: &mut T, handle: Option<u32>) -> Pushed
 
 // Tells the names of the bits of the table that are set.
 #[tactic(auto, using(crate::proofs::Pieces::pieces))]
-fn tell_set_names<T: Teller>(teller: &mut T, table: &'static [Named], attributes: u8) -> Pushed
-    requires { AllByRecursion (λ bit. bit.number < 32) table.now }
+fn tell_set_names<T: Teller>(teller: &mut T, table: &'static [Row], attributes: u8) -> Pushed
+    requires { AllByRecursion (λ bit. bit.0 < 32) table.now }
     ensures { OnOk result (T.told teller.new ≡ T.told teller.old ++ flat_map T.marks
-        (names_from Asked (bits_set (map named_as table.now) attributes))) }
+        (names_from Asked (bits_set (map row_as table.now) attributes))) }
 {
     let mut how = How::Asked;
     for bit in table {
-        if is_set(u32::from(attributes), bit.number) {
-            teller.tell(&Piece::Says(how, None, Value::Word(bit.name)))?;
+        let (number, name) = *bit;
+        if is_set(u32::from(attributes), number) {
+            teller.tell(&Piece::Says(how, None, Value::Word(name)))?;
             how = How::FurtherAsked;
         }
     }

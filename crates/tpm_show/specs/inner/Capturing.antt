@@ -10,15 +10,15 @@ use Rattle.tpm_show.specs.declared.telling.Telling.{Telling}
 use Rattle.tpm_show.specs.declared.capture.Capture.{Capture}
 use Rattle.tpm_show.specs.declared.capture_frames.Awaited.{Awaited}
 use Rattle.tpm_show.specs.declared.capture_frames.FrameAt.{FrameAt as RustFrameAt}
-use Rattle.tpm_show.specs.declared.capture_lines.Line.{Line as RustLine}
-use Rattle.tpm_show.specs.Capture.{Line, CapturePlace, FrameAt, start, line_of, most_line, is_blank, behind}
+use Rattle.tpm_show.specs.declared.capture_lines.CaptureLine.{CaptureLine as RustLine}
+use Rattle.tpm_show.specs.Capture.{CaptureLine, CapturePlace, FrameAt, start, line_of, most_line, is_blank, behind}
 use Rattle.tpm_show.specs.Capture.{TellsLine, TellsFrom}
 use Rattle.tpm_show.specs.Stream.{unmarked_frame}
-use Rattle.tpm_show.specs.declared.capture_lines.Line.TheVariants as rust
+use Rattle.tpm_show.specs.declared.capture_lines.CaptureLine.TheVariants as rust
 use Rattle.tpm_show.specs.Capture as capture
 
 -- what was read of a line
-abbrev pub read_as : RustLine → Line
+abbrev pub read_as : RustLine → CaptureLine
 read_as rust.Nothing = capture.Nothing
 read_as (rust.Frame mark bytes) = capture.Frame mark bytes.items
 read_as rust.NotHexadecimal = capture.NotHexadecimal
@@ -38,7 +38,7 @@ pub record Passes (old : Capture) (awaited : Awaited) (status : Status) (new : C
   pub all : new.status ≡ both old.status status
 
 -- This line was told.
-pub record TellsNext (l : Line) (old new : Capture) (Added : List ℕ → Type 0) : Type 0 where
+pub record TellsNext (l : CaptureLine) (old new : Capture) (Added : List ℕ → Type 0) : Type 0 where
   pub status : Status
   pub text : List ℕ
   pub tells : TellsLine (place old) l status text
@@ -51,7 +51,7 @@ abbrev pub capture_line : Limits
 capture_line = record { counts = λ byte. not (is_blank byte); most = most_line; long_ends = false }
 
 -- The line was told, and whatever it is, the next is told, too.
-abbrev pub TellsTo : Line → LineStep Capture → Option Capture → Type 0
+abbrev pub TellsTo : CaptureLine → LineStep Capture → Option Capture → Type 0
 TellsTo l step (Some new) = TellsNext l step.old new (λ text. text ≡ step.text)
 TellsTo l step None = ⊥
 
@@ -61,7 +61,7 @@ TellsStep step = TellsTo (line_of step.line) step step.new
 -- ---- frames
 
 -- what is behind these lines
-abbrev pub behind_all : CapturePlace → List Line → CapturePlace
+abbrev pub behind_all : CapturePlace → List CaptureLine → CapturePlace
 behind_all p [] = p
 behind_all p (first ∷ others) = behind_all (behind p first) others
 

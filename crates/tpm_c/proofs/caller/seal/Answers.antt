@@ -4,7 +4,7 @@ use Rattle.tpm_wire.specs.Reading.{read_all}
 use Rattle.tpm_commands.specs.Handles.{handle_kinds}
 use Rattle.tpm_buffer.specs.Commands.{command as command_layout}
 use Rattle.tpm_caller.specs.Plain.{body_in, parts_in}
-use Rattle.tpm_c.specs.declared.caller.Held.TheVariants.{Free}
+use Rattle.tpm_c.specs.declared.caller.CallerState.TheVariants.{Free}
 use Rattle.tpm_c.specs.Callers.{do_fit, SealedWith, is_set}
 use Rattle.tpm_c.proofs.Sealing.{is_sealed}
 use Rattle.tpm_c.proofs.caller.seal.Goals as goal
@@ -12,7 +12,7 @@ use Rattle.tpm_c.proofs.caller.seal.Goals as goal
 pub returns-in-Free : goal.returns-in-Free
 returns-in-Free c =
     let room : nat_le 4096 (length c.args.out.now) ≡ true = search rules in
-    let free : c.args.held.now ≡ Free c.in-Free.caller = search rules in
+    let free : c.args.state.now ≡ Free c.in-Free.caller = search rules in
     let there : parts_in (body_in (read_all command_layout c.args.command.now)) ≡ Some c.in-Some.plain = search rules in
     let fits : do_fit (take (length (handle_kinds c.in-Some.plain.code)) (c.args.first.now ∷ c.args.second.now ∷ []))
     c.args.nonce.now ≡ true = search rules in

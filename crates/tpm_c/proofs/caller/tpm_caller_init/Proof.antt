@@ -1,10 +1,10 @@
 -- `tpm_caller_init` meets its contract: the room is written, and what lies there is a caller that holds no session.
 use Rattle.tpm_c.proofs.Steps.{◌≡◌, refl, id⊢, room_at}
 use Rattle.tpm_c.proofs.Lending.{there, is_this, inits}
-use Rattle.tpm_c.proofs.caller.Held.TheLaws.{the_row_laws}
+use Rattle.tpm_c.proofs.caller.CallerState.TheLaws.{the_row_laws}
 use Rattle.tpm_c.proofs.caller.nothing.Met.{met}
-use Rattle.tpm_c.specs.declared.caller.Held.TheVariants.{Spent}
-use Rattle.tpm_c.specs.contracts.caller.Held.{the_row}
+use Rattle.tpm_c.specs.declared.caller.CallerState.TheVariants.{Spent}
+use Rattle.tpm_c.specs.contracts.caller.CallerState.{the_row}
 use Rattle.tpm_c.specs.contracts.caller.nothing as of
 use Rattle.tpm_c.specs.contracts.caller.tpm_caller_init as f
 use Rattle.tpm_c.proofs.caller.tpm_caller_init.Statement as stated

@@ -4,8 +4,8 @@ use Rattle.tpm_c.proofs.Steps.{no_more, returns, enter, alloc_all, pass_all, fre
 use Rattle.tpm_c.proofs.Steps.{lands_as, uint_Lawful, u8, mut_vals, shr_slice_vals, shr_slice_Tells, triple_of}
 use Rattle.tpm_c.proofs.Lending.{Spelled, there, points, becomes, lent}
 use Rattle.tpm_c.proofs.caller.open.Met.{met}
-use Rattle.tpm_c.specs.contracts.caller.Held.{the_row}
-use Rattle.tpm_c.specs.Callers.{held_at, open_code, after_open}
+use Rattle.tpm_c.specs.contracts.caller.CallerState.{the_row}
+use Rattle.tpm_c.specs.Callers.{state_at, open_code, after_open}
 use Rattle.tpm_c.specs.contracts.caller.open as of
 use Rattle.tpm_c.specs.contracts.caller.tpm_caller_open as f
 use Rattle.tpm_c.proofs.caller.tpm_caller_open.Statement as stated
@@ -15,12 +15,12 @@ pub tpm_caller_open_spec : {M : Type 1} → stated.statement M
 tpm_caller_open_spec 𝓤 𝓛 𝓜 𝓡 wired =
     let c = f.clauses 𝓛 𝓜.mem 𝓡.returns in let sp : Spelled f.ended = λ κs. (shr_slice_vals, tt) in
     points 𝓛 𝓜 𝓡 f.ended c sp f.Key.name code.function (code.unfolded 𝓤 𝓛.H 𝓜 𝓡 wired) (λ κs. (shr_slice_Tells (named 0) κs.0 u8, tt))
-    (λ p w. Unit {0}) (λ p w x. held_at w.4 p) (λ w x. id⊢ 𝓤 _) (λ p w. there 𝓛 (held_at w.4 p)) (λ b o w are x.
-    let a = w.3 in let held = w.4 in let reply = a.0.now in
+    (λ p w. Unit {0}) (λ p w x. state_at w.4 p) (λ w x. id⊢ 𝓤 _) (λ p w. there 𝓛 (state_at w.4 p)) (λ b o w are x.
+    let a = w.3 in let state = w.4 in let reply = a.0.now in
     enter ! _ _ _ _ _ $ alloc_all ! (λ l. pass_all ! refl ((tt, tt), ((tt, (tt, (record { fits = are.0.0.1.0 }, tt))), tt)) $
-    -- &mut *(place as *mut Held)
+    -- &mut *(place as *mut CallerState)
     sets ! (of_opd ! (get ! refl)) refl (tt, tt) $ sets ! (addr ! (through ! refl (stop !))) refl (tt, tt) $
-    lent 𝓛 𝓜 𝓡 f.ended c sp ! the_row held b o w (λ r new us. (r ≡ open_code held reply) × (new ≡ after_open held reply))
+    lent 𝓛 𝓜 𝓡 f.ended c sp ! the_row state b o w (λ r new us. (r ≡ open_code state reply) × (new ≡ after_open state reply))
     (triple_of 𝓛 of.signature (of.spec 𝓛 𝓜.mem 𝓡.returns)) (met 𝓤 𝓛 𝓜 𝓡 (code.calls-tpm_c::caller::open 𝓡.env wired))
     (λ κ x vals. (((κ, w.0), (full_share, w.1), tt, (x, a), (mut_vals x, vals)), tt)) (λ κ δ. id⊢ 𝓤 _) (λ κ δ v. id⊢ 𝓤 _)
     (λ r new us e. becomes 𝓛 the_row b o e.1 e.0) (λ κ δ. and_then ! (get ! refl) (and_then ! (get ! refl) (no_more !)))

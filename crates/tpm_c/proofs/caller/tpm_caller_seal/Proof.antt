@@ -8,8 +8,8 @@ use Rattle.tpm_c.proofs.Lending.{Spelled, there, points, becomes, lent}
 use Rattle.tpm_c.proofs.caller.seal.Met.{met}
 use Rattle.std.specs.Prelude.{IfSome}
 use Rattle.tpm_caller.specs.Sent.{IsSpelled}
-use Rattle.tpm_c.specs.contracts.caller.Held.{the_row}
-use Rattle.tpm_c.specs.Callers.{held_at, SealedWith, is_set, sealing, sealed_bytes, after_seal}
+use Rattle.tpm_c.specs.contracts.caller.CallerState.{the_row}
+use Rattle.tpm_c.specs.Callers.{state_at, SealedWith, is_set, sealing, sealed_bytes, after_seal}
 use Rattle.tpm_c.specs.Written.{IsIn}
 use Rattle.tpm_c.specs.contracts.caller.seal as of
 use Rattle.tpm_c.specs.contracts.caller.tpm_caller_seal as f
@@ -35,8 +35,8 @@ tpm_caller_seal_spec 𝓤 𝓛 𝓜 𝓡 wired =
         ),
       ),
     ))
-    (λ p w. Unit {0}) (λ p w x. held_at w.4 p) (λ w x. id⊢ 𝓤 _) (λ p w. there 𝓛 (held_at w.4 p)) (λ b o w are x.
-    let a = w.3 in let held = w.4 in let out = a.1.1.1.1.1.1.0.now in
+    (λ p w. Unit {0}) (λ p w x. state_at w.4 p) (λ w x. id⊢ 𝓤 _) (λ p w. there 𝓛 (state_at w.4 p)) (λ b o w are x.
+    let a = w.3 in let state = w.4 in let out = a.1.1.1.1.1.1.0.now in
     let means : SealedWith = record {
       first = a.1.0.now;
       second = a.1.1.0.now;
@@ -44,7 +44,7 @@ tpm_caller_seal_spec 𝓤 𝓛 𝓜 𝓡 wired =
       nonce = a.1.1.1.1.0.now;
       keep = is_set a.1.1.1.1.1.0;
     } in
-    let seal = sealing held a.0.now means (length out) in
+    let seal = sealing state a.0.now means (length out) in
     enter ! _ _ _ _ _ $ alloc_all ! (λ l. pass_all ! refl (
       (tt, tt),
       (
@@ -64,13 +64,13 @@ tpm_caller_seal_spec 𝓤 𝓛 𝓜 𝓡 wired =
         ),
       ),
     ) $
-    -- &mut *(place as *mut Held), and the slice again
+    -- &mut *(place as *mut CallerState), and the slice again
     sets ! (of_opd ! (get ! refl)) refl (tt, tt) $ sets ! (addr ! (through ! refl (stop !))) refl (tt, tt) $
     sets ! (addr ! (from ! (fld ! refl (hop ! (look_in_at ! 8 (sub ! 0 refl (whole !))) (stop !))))) refl (tt, tt) $
     sets ! (agg ! (and_then ! (get ! refl) (and_then ! (get_in ! (fld ! refl (stop !)) (sub ! 1 refl (whole !))) (no_more !))))
     refl (tt, (tt, (record { fits = are.1.1.1.1.1.1.0.0.1.0 }, tt))) $
-    lent 𝓛 𝓜 𝓡 f.ended c sp ! the_row held b o w
-    (λ r new us. (IsIn (sealed_bytes seal) out us.1.1.1.1.1.1.0 r × IfSome seal IsSpelled) × (new ≡ after_seal held seal))
+    lent 𝓛 𝓜 𝓡 f.ended c sp ! the_row state b o w
+    (λ r new us. (IsIn (sealed_bytes seal) out us.1.1.1.1.1.1.0 r × IfSome seal IsSpelled) × (new ≡ after_seal state seal))
     (triple_of 𝓛 of.signature (of.spec 𝓛 𝓜.mem 𝓡.returns)) (met 𝓤 𝓛 𝓜 𝓡 (code.calls-tpm_c::caller::seal 𝓡.env wired))
     (λ κ x vals. (((κ, w.0), (full_share, w.1), tt, (x, a), (mut_vals x, vals)), tt)) (λ κ δ. id⊢ 𝓤 _) (λ κ δ v. id⊢ 𝓤 _)
     (λ r new us e. becomes 𝓛 the_row b o e.1 e.0)

@@ -4,8 +4,8 @@ use Rattle.tpm_c.proofs.Steps.{no_more, returns, enter, alloc_all, pass_all, fre
 use Rattle.tpm_c.proofs.Steps.{lands_as, uint_Lawful, u8, mut_vals, shr_slice_vals, shr_slice_Tells, triple_of}
 use Rattle.tpm_c.proofs.Lending.{Spelled, there, points, becomes, lent}
 use Rattle.tpm_c.proofs.caller.start.Met.{met}
-use Rattle.tpm_c.specs.contracts.caller.Held.{the_row}
-use Rattle.tpm_c.specs.Callers.{held_at, started_by, start_code, after_start}
+use Rattle.tpm_c.specs.contracts.caller.CallerState.{the_row}
+use Rattle.tpm_c.specs.Callers.{state_at, started_by, start_code, after_start}
 use Rattle.tpm_c.specs.contracts.caller.start as of
 use Rattle.tpm_c.specs.contracts.caller.tpm_caller_start as f
 use Rattle.tpm_c.proofs.caller.tpm_caller_start.Statement as stated
@@ -16,8 +16,8 @@ tpm_caller_start_spec 𝓤 𝓛 𝓜 𝓡 wired =
     let c = f.clauses 𝓛 𝓜.mem 𝓡.returns in let sp : Spelled f.ended = λ κs. (shr_slice_vals, (shr_slice_vals, (shr_slice_vals, tt))) in
     points 𝓛 𝓜 𝓡 f.ended c sp f.Key.name code.function (code.unfolded 𝓤 𝓛.H 𝓜 𝓡 wired) (λ κs.
     (shr_slice_Tells (named 0) κs.0 u8, (shr_slice_Tells (named 1) κs.1.0 u8, (shr_slice_Tells (named 2) κs.1.1.0 u8, tt))))
-    (λ p w. Unit {0}) (λ p w x. held_at w.4 p) (λ w x. id⊢ 𝓤 _) (λ p w. there 𝓛 (held_at w.4 p)) (λ b o w are x.
-    let a = w.3 in let held = w.4 in let started = started_by a.0.now a.1.0.now a.1.1.0.now in
+    (λ p w. Unit {0}) (λ p w x. state_at w.4 p) (λ w x. id⊢ 𝓤 _) (λ p w. there 𝓛 (state_at w.4 p)) (λ b o w are x.
+    let a = w.3 in let state = w.4 in let started = started_by a.0.now a.1.0.now a.1.1.0.now in
     enter ! _ _ _ _ _ $ alloc_all ! (λ l. pass_all ! refl (
       (tt, tt),
       (
@@ -25,9 +25,9 @@ tpm_caller_start_spec 𝓤 𝓛 𝓜 𝓡 wired =
         ((tt, (tt, (record { fits = are.1.0.0.1.0 }, tt))), ((tt, (tt, (record { fits = are.1.1.0.0.1.0 }, tt))), tt)),
       ),
     ) $
-    -- &mut *(place as *mut Held)
+    -- &mut *(place as *mut CallerState)
     sets ! (of_opd ! (get ! refl)) refl (tt, tt) $ sets ! (addr ! (through ! refl (stop !))) refl (tt, tt) $
-    lent 𝓛 𝓜 𝓡 f.ended c sp ! the_row held b o w (λ r new us. (r ≡ start_code started) × (new ≡ after_start held started))
+    lent 𝓛 𝓜 𝓡 f.ended c sp ! the_row state b o w (λ r new us. (r ≡ start_code started) × (new ≡ after_start state started))
     (triple_of 𝓛 of.signature (of.spec 𝓛 𝓜.mem 𝓡.returns)) (met 𝓤 𝓛 𝓜 𝓡 (code.calls-tpm_c::caller::start 𝓡.env wired))
     (λ κ x vals. (((κ, w.0), (full_share, w.1), tt, (x, a), (mut_vals x, vals)), tt)) (λ κ δ. id⊢ 𝓤 _) (λ κ δ v. id⊢ 𝓤 _)
     (λ r new us e. becomes 𝓛 the_row b o e.1 e.0)

@@ -9,7 +9,7 @@ use Rattle.tpm_caller.proofs.Opening.{other_mac_for, open_for}
 use Rattle.tpm_caller.proofs.FromCut.{plain_wrong_mac}
 use Rattle.tpm_caller.proofs.pending.Pending.check.Goals.{After-as_slice-4}
 use Rattle.tpm_caller.proofs.pending.Pending.check.Goals as goal
-use Rattle.tpm_caller.specs.inner.Finding.{has_no_params, HasFault}
+use Rattle.tpm_caller.specs.inner.Checking.{has_no_params, HasFault}
 
 abbrev Authorized : Waiting → Type 0
 Authorized w = needs_authorization w.code ≡ true

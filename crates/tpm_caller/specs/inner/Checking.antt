@@ -1,4 +1,4 @@
--- What a caller finds in the bytes of a reply.
+-- What a caller checks in the bytes of a reply.
 use Rattle.std.specs.Prelude.{◌≡◌, ℕ, ◌≤◌, Bool, true, false, List, length, Option, Some, None, Ok, Err}
 use Rattle.tpm_wire.specs.Path.{Spells}
 use Rattle.tpm_wire.specs.Reading.{read_all}
@@ -12,8 +12,8 @@ use Rattle.tpm_commands.specs.declared.response.Response.TheVariants as response
 use Rattle.tpm_buffer.specs.Responses.{response, done_with}
 use Rattle.tpm_model.specs.Callers.{Waiting, opened_session}
 use Rattle.tpm_model.specs.Callers as model
-use Rattle.tpm_caller.specs.declared.pending.Found.{Found}
-use Rattle.tpm_caller.specs.declared.pending.Found.TheVariants as founds
+use Rattle.tpm_caller.specs.declared.pending.Checked.{Checked}
+use Rattle.tpm_caller.specs.declared.pending.Checked.TheVariants as checks
 use Rattle.tpm_caller.specs.declared.waiting.CallerFault.{CallerFault}
 use Rattle.tpm_caller.specs.declared.waiting.CallerFault.TheVariants as faults
 use Rattle.tpm_caller.specs.Faults.{fault_of, HasFirstFault}
@@ -56,8 +56,8 @@ OpensWith w bytes nonce =
       response = done_with (record { body = body; auths = auths });
     })
 
--- This is found in the session of a reply.
-abbrev pub IsFound : Waiting → List ℕ → Found → Type 0
-IsFound w bytes (founds.Nonce nonce) = OpensWith w bytes nonce.now × (length nonce.now ≤ digest_bytes)
-IsFound w bytes (founds.Fault fault) = HasFault w bytes fault
-IsFound w bytes (founds.FirstFault fault) = HasFirstFault w bytes fault
+-- The check of the session of a reply says this.
+abbrev pub IsChecked : Waiting → List ℕ → Checked → Type 0
+IsChecked w bytes (checks.Nonce nonce) = OpensWith w bytes nonce.now × (length nonce.now ≤ digest_bytes)
+IsChecked w bytes (checks.Fault fault) = HasFault w bytes fault
+IsChecked w bytes (checks.FirstFault fault) = HasFirstFault w bytes fault
