@@ -101,7 +101,7 @@ def crate_numbers():
         | constants("tpm_c", "entry", "TPM_")
         | constants("tpm_c", "load_option", "TPM_")
         | constants("tpm_c", "signature_list", "TPM_")
-        | arms("tpm_c", "content", "Held", "TPM_HOLDS_")
+        | arms("tpm_c", "content", "TypedValue", "TPM_HOLDS_")
         | {"TPM_TABLE_BYTES": constants("tpm_event_data", "handoffs")["ENTRY"]}
         | arms("tpm_c", "measured", "MeasuredPart", "TPM_MEASURED_")
         | constants("tpm_c", "signature", "TPM_ALG_", "u16")

@@ -5,10 +5,10 @@ ghost use Rattle.tpm_event_data.specs.Contents.{as_content, content_of};
 ghost use Rattle.tpm_event_data.specs.DeviceSecurities.{as_device, as_evidence, as_measurement};
 ghost use Rattle.tpm_event_data.specs.FirmwareBlobs.{as_blob};
 ghost use Rattle.tpm_event_data.specs.HandoffTables.{as_tables};
-ghost use Rattle.tpm_event_data.specs.HeldValues.{as_held};
+ghost use Rattle.tpm_event_data.specs.TypedValues.{as_typed_value};
 ghost use Rattle.tpm_event_data.specs.PartitionTables.{as_table};
 ghost use Rattle.tpm_event_data.specs.TaggedEvents.{as_tagged};
-ghost use Rattle.tpm_c.specs.Contents.{content_number, content_view, evidence_view, firmware_view, held_number};
+ghost use Rattle.tpm_c.specs.Contents.{content_number, content_view, evidence_view, firmware_view, typed_number};
 ghost use Rattle.tpm_c.specs.Contents.{measurement_view, partitions_view, tables_view, tag_view, IsContentTold};
 ghost use Rattle.tpm_c.specs.inner.Contents.{Fits};
 
@@ -19,7 +19,7 @@ use crate::variable::{TpmVariable, VARIABLE, variable_view};
 use arrayvec::ArrayVec;
 use tpm_event_data::{
     Content, DeviceEvidence, DeviceMeasurement, DeviceSecurity, Event, FirmwareBlob, HandoffTables,
-    Held, PartitionTable, TaggedEvent,
+    PartitionTable, TaggedEvent, TypedValue,
 };
 
 // The kinds that have no call of their own.
@@ -121,17 +121,17 @@ pub struct TpmContent {
     pub evidence: TpmEvidence,
 }
 
-fn held_number(held: &Held<'_>) -> u32
-    ensures { result ≡ held_number (as_held held.now) }
+fn typed_number(typed: &TypedValue<'_>) -> u32
+    ensures { result ≡ typed_number (as_typed_value typed.now) }
 {
-    match held {
-        Held::LoadOption(_) => 96,
-        Held::BootOrder(_) => 97,
-        Held::Signatures(_) => 98,
-        Held::Signature(_) => 99,
-        Held::Byte(_) => 100,
-        Held::Empty => 101,
-        Held::Bytes => 102,
+    match typed {
+        TypedValue::LoadOption(_) => 96,
+        TypedValue::BootOrder(_) => 97,
+        TypedValue::Signatures(_) => 98,
+        TypedValue::Signature(_) => 99,
+        TypedValue::Byte(_) => 100,
+        TypedValue::Empty => 101,
+        TypedValue::Bytes => 102,
     }
 }
 
@@ -266,9 +266,9 @@ fn tell(size: usize, content: &Content<'_>, view: &mut TpmContent)
     ensures { view.new ≡ content_view size (as_content content.now) view.old }
 {
     match content {
-        Content::Variable(variable, held) => {
+        Content::Variable(variable, typed) => {
             view.variable = variable_view(variable);
-            view.holds = held_number(held);
+            view.holds = typed_number(typed);
         }
         Content::Text(text) => view.text = front(text.len()),
         Content::Units(text) | Content::Version(text) | Content::VersionGuid(text) => {

@@ -4,7 +4,7 @@ ghost use Rattle.std.specs.Prelude.{◌≡◌, map, option_map};
 ghost use Rattle.tpm_types.specs.Alg.{alg_of};
 ghost use Rattle.tpm_log.specs.Events.{shown};
 ghost use Rattle.tpm_secure_boot.specs.SecureBoot.{sayings};
-ghost use Rattle.tpm_secure_boot.specs.Found.{held};
+ghost use Rattle.tpm_secure_boot.specs.BootPolicy.{value_at};
 ghost use Rattle.tpm_log.specs.Authorities.{authority_places};
 ghost use Rattle.tpm_c.specs.SecureBoots.{state_number, fault_number, place_of};
 ghost use Rattle.tpm_c.specs.inner.SecureBoots.{found_view};
@@ -64,7 +64,7 @@ fn fault_number(kind: SecureBootFaultKind) -> u32
 }
 
 fn place_of(variable: Option<SecurityVariable<'_>>) -> u32
-    ensures { result ≡ place_of (option_map held variable.entry) }
+    ensures { result ≡ place_of (option_map value_at variable.entry) }
 {
     match variable {
         Some(variable) => variable.at,

@@ -26,7 +26,7 @@ use Rattle.tpm_output.specs.declared.status.Status.TheVariants.{Done, Refused}
 use Rattle.tpm_output.specs.declared.status.Status.{Status}
 use Rattle.tpm_output.specs.InputLines.{lines_of, most_bytes}
 use Rattle.tpm_output.specs.LineSinks.{GoesOn, IsWhole, OnTrue, ReadsLines, ReadsOneMore, LineStep, LinesEnd, LinesStart}
-use Rattle.tpm_output.specs.LineSinks.{StopsAt, TakesAll, TakesFrom, TakesKept, kept, some_if}
+use Rattle.tpm_output.specs.LineSinks.{StopsAt, TakesAll, TakesFrom, TakesBuffered, buffered, some_if}
 use Rattle.tpm_output.specs.Status.{both}
 use Rattle.tpm_output.proofs.LineReading.{stops_whatever}
 use Rattle.tpm_output.proofs.Tables.{position-map}
@@ -90,7 +90,7 @@ heading_is c mid (Heads heading) is = ap (λ (k : Comparing). k.heading) (same_s
 heading_is c mid Passes is = ap (λ (k : Comparing). k.heading) (same_some mid c is)
 heading_is c mid Wrong is = absurd (not_none mid is)
 
--- ---- what is kept of a line
+-- ---- what is buffered of a line
 
 all_count : (xs : List ℕ) → filter (λ _. true) xs ≡ xs
 all_count [] = refl
@@ -100,18 +100,18 @@ wrong-long : (heading : Heading) (text : List ℕ) → most_line < length text �
 unfolding line_under
 wrong-long heading text lt = rw (lt-ltb most_line (length text) lt) refl
 
-line_under-kept : (heading : Heading) (line : List ℕ) → line_under heading (kept list_line line) ≡ line_under heading line
-line_under-kept heading line = rw all_count (elim (cases_lt most_line (length line)) [
+line_under-buffered : (heading : Heading) (line : List ℕ) → line_under heading (buffered list_line line) ≡ line_under heading line
+line_under-buffered heading line = rw all_count (elim (cases_lt most_line (length line)) [
   | inl many ↦
       wrong-long heading (take (most_line + 1) line) (omega (arith, length-take-le (most_line + 1) line (omega (arith, many))))
       ∙ sym (wrong-long heading line many)
   | inr few ↦ ap (line_under heading) (take_all (most_line + 1) line (omega (arith, few)))
 ])
 
-pub takes_kept : (step : LineStep Comparing) → Compares step → TakesKept list_line Compares step
-takes_kept step f = λ line same.
+pub takes_buffered : (step : LineStep Comparing) → Compares step → TakesBuffered list_line Compares step
+takes_buffered step f = λ line same.
     let is : line_under step.old.heading step.line ≡ line_under step.old.heading line =
-    ap (line_under step.old.heading) (sym same) ∙ line_under-kept step.old.heading line in
+    ap (line_under step.old.heading) (sym same) ∙ line_under-buffered step.old.heading line in
     (f.0 ∙ ap (line_behind step.old) is, f.1 ∙ ap (line_text (told step.old.found.now) step.number) is)
 
 pub anywhere : (goes_on : Bool) → OnTrue goes_on (Unit {0})

@@ -17,7 +17,7 @@ ghost use Rattle.tpm_check.specs.inner.Comparing.{status_behind};
 ghost use Rattle.tpm_check.specs.inner.Told.{told};
 
 use crate::beside::Beside;
-use crate::list_lines::{Heading, Line, MOST_LINE, read_line};
+use crate::list_lines::{Heading, ListLine, MOST_LINE, read_line};
 use crate::register_text::{push_compared, push_not_a_register};
 use crate::stated::Stated;
 use std::alloc::{AllocError, Global};
@@ -96,10 +96,10 @@ impl Comparing<'_> {
             (line_text (told self.old.found.now) number (line_under self.old.heading line.now))) }
     {
         match read_line(alloc, self.heading, line)? {
-            Line::Stated(stated) => self.compare_stated(&stated, text)?,
-            Line::Heading(heading) => self.heading = heading,
-            Line::Passed => {}
-            Line::Wrong => {
+            ListLine::Stated(stated) => self.compare_stated(&stated, text)?,
+            ListLine::Heading(heading) => self.heading = heading,
+            ListLine::Passed => {}
+            ListLine::Wrong => {
                 push_not_a_register(text, self.found.json, number)?;
                 return Ok(false);
             }

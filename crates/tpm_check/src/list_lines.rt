@@ -28,7 +28,7 @@ pub(crate) enum Heading {
 
 /// What a line says.
 #[derive(Drop)]
-pub(crate) enum Line {
+pub(crate) enum ListLine {
     /// The value of a register.
     Stated(Stated),
     /// The bank of the lines behind it.
@@ -108,12 +108,12 @@ fn number_in(text: &[u8]) -> Option<PcrIndex>
 }
 
 // That a register has the value that is stated, or that the line is wrong.
-fn stating(stated: Option<Stated>) -> Line
+fn stating(stated: Option<Stated>) -> ListLine
     ensures { line_as result ≡ stating (option_map stated_as stated) }
 {
     match stated {
-        Some(stated) => Line::Stated(stated),
-        None => Line::Wrong,
+        Some(stated) => ListLine::Stated(stated),
+        None => ListLine::Wrong,
     }
 }
 
@@ -123,7 +123,7 @@ fn read_numbered(
     heading: Heading,
     register: Option<PcrIndex>,
     value: &[u8],
-) -> Result<Line, AllocError>
+) -> Result<ListLine, AllocError>
     ensures { IfOk result (λ line. line_as line
         ≡ numbered_under heading register (bytes_in value.now)) }
 {
@@ -132,24 +132,28 @@ fn read_numbered(
             Ok(stating(read_value(alloc, bank, register, value)?))
         }
         (Heading::OtherBank(size), Some(_)) => match decoded(alloc, value)? {
-            Some(value) if value.len() == size => Ok(Line::Passed),
-            _ => Ok(Line::Wrong),
+            Some(value) if value.len() == size => Ok(ListLine::Passed),
+            _ => Ok(ListLine::Wrong),
         },
-        _ => Ok(Line::Wrong),
+        _ => Ok(ListLine::Wrong),
     }
 }
 
 /// What a line says under a heading: that a register has a value, as its line is printed or as `tpm2_pcrread` prints
 /// it, or under which bank's heading the next lines stand.
 #[tactic(auto, unfolding(crate::specs::Compare::line_under))]
-pub(crate) fn read_line(alloc: Global, heading: Heading, text: &[u8]) -> Result<Line, AllocError>
+pub(crate) fn read_line(
+    alloc: Global,
+    heading: Heading,
+    text: &[u8],
+) -> Result<ListLine, AllocError>
     ensures { IfOk result (λ line. line_as line ≡ line_under heading text.now) }
 {
     if text.len() > MOST_LINE {
-        return Ok(Line::Wrong);
+        return Ok(ListLine::Wrong);
     }
     if let Some(heading) = heading_in(text) {
-        return Ok(Line::Heading(heading));
+        return Ok(ListLine::Heading(heading));
     }
     if is_numbered(text) {
         return read_numbered(alloc, heading, number_in(text), &text[10..]);

@@ -9,14 +9,14 @@ use Rattle.std.specs.Io.KnownBytes.{Consumes, Keeps}
 use Rattle.tpm_stream.proofs.Filled.{consumes_both}
 use Rattle.tpm_output.specs.declared.input_lines.LineReader.{LineReader}
 use Rattle.tpm_output.specs.InputLines.{lines_of, HasNoFeed, most_piece}
-use Rattle.tpm_output.specs.LineSinks.{GoesOn, Limits, ReadsLines, LineStep, LinesEnd, LinesStart, StopsAt, TakesAll, TakesFrom, kept}
+use Rattle.tpm_output.specs.LineSinks.{GoesOn, Limits, ReadsLines, LineStep, LinesEnd, LinesStart, StopsAt, TakesAll, TakesFrom, buffered}
 use Rattle.tpm_output.specs.LineSinks.{some_if}
 use Rattle.tpm_output.specs.inner.LineReading.{EndsAll, EndsLine, Feeds, FeedsOn, Holds}
 use Rattle.tpm_output.specs.inner.LineReading.{has_some}
 use Rattle.tpm_output.proofs.InputLines.{no_feed-more, ended_line, ended_both, last_line, first_line, other_lines, longer_line}
 use Rattle.tpm_output.proofs.InputLines.{lines_of-append}
 
--- ---- what is kept of a line
+-- ---- what is buffered of a line
 
 fits_in : (most : ℕ) (xs : List ℕ) → length (take (most + 1) xs) ≤ most → length xs ≤ most
 fits_in most xs le = elim (cases_lt most (length xs)) [
@@ -33,7 +33,7 @@ over most xs lt = elim (cases_lt most (length xs)) [
 keeps_in : (most : ℕ) (xs : List ℕ) → length xs ≤ most → take (most + 1) xs ≡ xs
 keeps_in most xs le = take_all (most + 1) xs (omega (arith, le))
 
--- Of bytes of which one too many are kept more makes no difference.
+-- Of bytes of which one too many are buffered more makes no difference.
 keeps_full : (most : ℕ) (xs ys : List ℕ) → most < length (take (most + 1) xs) → take (most + 1) (xs ++ ys) ≡ take (most + 1) xs
 keeps_full most xs ys lt = elim (cases_lt most (length xs)) [
   | inl many ↦ take-append-le (most + 1) xs ys (omega (arith, many))
@@ -41,21 +41,21 @@ keeps_full most xs ys lt = elim (cases_lt most (length xs)) [
 ]
 
 module _ (limits : Limits) where
-  kept-append : (line more : List ℕ) → kept limits (line ++ more) ≡ take (limits.most + 1) (filter limits.counts line ++ filter limits.counts more)
-  kept-append line more = ap (take (limits.most + 1)) (filter-append limits.counts line more)
+  buffered-append : (line more : List ℕ) → buffered limits (line ++ more) ≡ take (limits.most + 1) (filter limits.counts line ++ filter limits.counts more)
+  buffered-append line more = ap (take (limits.most + 1)) (filter-append limits.counts line more)
 
-  kept_blank : (line : List ℕ) (byte : ℕ) → limits.counts byte ≡ false → kept limits (line ++ byte ∷ []) ≡ kept limits line
-  kept_blank line byte blank = kept-append line (byte ∷ []) ∙ rw (blank, append-nil (filter limits.counts line)) refl
+  buffered_blank : (line : List ℕ) (byte : ℕ) → limits.counts byte ≡ false → buffered limits (line ++ byte ∷ []) ≡ buffered limits line
+  buffered_blank line byte blank = buffered-append line (byte ∷ []) ∙ rw (blank, append-nil (filter limits.counts line)) refl
 
-  kept_full : (line more : List ℕ) → limits.most < length (kept limits line) → kept limits (line ++ more) ≡ kept limits line
-  kept_full line more lt = kept-append line more ∙ keeps_full limits.most (filter limits.counts line) (filter limits.counts more) lt
+  buffered_full : (line more : List ℕ) → limits.most < length (buffered limits line) → buffered limits (line ++ more) ≡ buffered limits line
+  buffered_full line more lt = buffered-append line more ∙ keeps_full limits.most (filter limits.counts line) (filter limits.counts more) lt
 
-  kept_more : (line : List ℕ) (byte : ℕ) → limits.counts byte ≡ true → length (kept limits line) ≤ limits.most
-      → kept limits (line ++ byte ∷ []) ≡ kept limits line ++ byte ∷ []
-  kept_more line byte counts le =
+  buffered_more : (line : List ℕ) (byte : ℕ) → limits.counts byte ≡ true → length (buffered limits line) ≤ limits.most
+      → buffered limits (line ++ byte ∷ []) ≡ buffered limits line ++ byte ∷ []
+  buffered_more line byte counts le =
       let xs = filter limits.counts line in
       let few : length xs ≤ limits.most = fits_in limits.most xs le in
-      kept-append line (byte ∷ [])
+      buffered-append line (byte ∷ [])
       ∙ rw counts (take_all (limits.most + 1) (xs ++ byte ∷ []) (omega (arith, few, length-append xs (byte ∷ []))))
       ∙ ap (λ (ys : List ℕ). ys ++ byte ∷ []) (sym (keeps_in limits.most xs few))
 
@@ -145,12 +145,12 @@ module _ {S : Type 0} (limits : Limits) (Takes : LineStep S → Type 0) where
 
   -- a byte of a line
   pub holds_byte : (old new : LineReader S) (byte : ℕ) → nat_eq byte 10 ≡ false → new.sink ≡ old.sink → new.number ≡ old.number → new.begun ≡ true
-      → ((line : List ℕ) → old.line.items ≡ kept limits line → new.line.items ≡ kept limits (line ++ byte ∷ []))
+      → ((line : List ℕ) → old.line.items ≡ buffered limits line → new.line.items ≡ buffered limits (line ++ byte ∷ []))
       → (limits.long_ends ≡ true → length old.line.items ≤ limits.most → length new.line.items ≤ limits.most)
       → FeedsOn limits Takes old new (byte ∷ []) []
   holds_byte old new byte other sink number begun keeps fits = λ first before text h.
       let g = h.goes in
-      let line : new.line.items ≡ kept limits (g.line ++ byte ∷ []) = keeps g.line h.line in
+      let line : new.line.items ≡ buffered limits (g.line ++ byte ∷ []) = keeps g.line h.line in
       let was : limits.long_ends ≡ true → length old.line.items ≤ limits.most =
       λ ends. rw (h.line, keeps_in limits.most (filter limits.counts g.line) (g.short ends)) (g.short ends) in
       record {
@@ -174,18 +174,18 @@ module _ {S : Type 0} (limits : Limits) (Takes : LineStep S → Type 0) where
         number = number ∙ h.number;
       }
 
-  -- one that is kept, one that doesn't count, and one too many
-  pub keeps_blank : (items : List ℕ) (byte : ℕ) → limits.counts byte ≡ false → (line : List ℕ) → items ≡ kept limits line
-      → items ≡ kept limits (line ++ byte ∷ [])
-  keeps_blank items byte blank line is = is ∙ sym (kept_blank limits line byte blank)
+  -- one that is buffered, one that doesn't count, and one too many
+  pub keeps_blank : (items : List ℕ) (byte : ℕ) → limits.counts byte ≡ false → (line : List ℕ) → items ≡ buffered limits line
+      → items ≡ buffered limits (line ++ byte ∷ [])
+  keeps_blank items byte blank line is = is ∙ sym (buffered_blank limits line byte blank)
 
-  pub keeps_over : (items : List ℕ) (byte : ℕ) → limits.most < length items → (line : List ℕ) → items ≡ kept limits line
-      → items ≡ kept limits (line ++ byte ∷ [])
-  keeps_over items byte lt line is = is ∙ sym (kept_full limits line (byte ∷ []) (rw is at lt))
+  pub keeps_over : (items : List ℕ) (byte : ℕ) → limits.most < length items → (line : List ℕ) → items ≡ buffered limits line
+      → items ≡ buffered limits (line ++ byte ∷ [])
+  keeps_over items byte lt line is = is ∙ sym (buffered_full limits line (byte ∷ []) (rw is at lt))
 
-  pub keeps_byte : (items : List ℕ) (byte : ℕ) → limits.counts byte ≡ true → length items ≤ limits.most → (line : List ℕ) → items ≡ kept limits line
-      → items ++ byte ∷ [] ≡ kept limits (line ++ byte ∷ [])
-  keeps_byte items byte counts le line is = ap (λ (xs : List ℕ). xs ++ byte ∷ []) is ∙ sym (kept_more limits line byte counts (rw is at le))
+  pub keeps_byte : (items : List ℕ) (byte : ℕ) → limits.counts byte ≡ true → length items ≤ limits.most → (line : List ℕ) → items ≡ buffered limits line
+      → items ++ byte ∷ [] ≡ buffered limits (line ++ byte ∷ [])
+  keeps_byte items byte counts le line is = ap (λ (xs : List ℕ). xs ++ byte ∷ []) is ∙ sym (buffered_more limits line byte counts (rw is at le))
 
   -- a line that ends
   pub feeds_end : (IsAt : ℕ → S → Type 0) (goes_on : Bool) (old new : LineReader S) (added : List ℕ)
@@ -248,18 +248,18 @@ module _ {S : Type 0} (limits : Limits) (Takes : LineStep S → Type 0) where
   pub feeds_long : (IsAt : ℕ → S → Type 0) (goes_on : Bool) (old mid new : LineReader S) (byte : ℕ) (added : List ℕ)
       → limits.long_ends ≡ true
       → nat_eq byte 10 ≡ false → mid.sink ≡ old.sink → mid.number ≡ old.number
-      → ((line : List ℕ) → old.line.items ≡ kept limits line → mid.line.items ≡ kept limits (line ++ byte ∷ []))
+      → ((line : List ℕ) → old.line.items ≡ buffered limits line → mid.line.items ≡ buffered limits (line ++ byte ∷ []))
       → limits.most < length mid.line.items
       → EndsLine limits Takes IsAt goes_on mid new added → Feeds limits Takes IsAt false old new (byte ∷ []) added
   feeds_long IsAt true old mid new byte added ends other sink number keeps lt ended = let le = ended.1.short ends in absurd (omega (arith, le, lt))
   feeds_long IsAt false old mid new byte added ends other sink number keeps lt ended = λ first before text h.
       let g = h.goes in
-      let line : mid.line.items ≡ kept limits (g.line ++ byte ∷ []) = keeps g.line h.line in
-      let full : limits.most < length (kept limits (g.line ++ byte ∷ [])) = rw line at lt in
+      let line : mid.line.items ≡ buffered limits (g.line ++ byte ∷ []) = keeps g.line h.line in
+      let full : limits.most < length (buffered limits (g.line ++ byte ∷ [])) = rw line at lt in
       let stop : (rest : List ℕ) → Takes (record { number = old.number; old = old.sink; line = g.line ++ byte ∷ rest; new = None; text = added }) = λ rest.
       let long = g.line ++ byte ∷ rest in
-      let same : kept limits long ≡ mid.line.items =
-      ap (kept limits) (sym (append_assoc g.line (byte ∷ []) rest)) ∙ kept_full limits (g.line ++ byte ∷ []) rest full ∙ sym line in
+      let same : buffered limits long ≡ mid.line.items =
+      ap (buffered limits) (sym (append_assoc g.line (byte ∷ []) rest)) ∙ buffered_full limits (g.line ++ byte ∷ []) rest full ∙ sym line in
       subst (λ (n : ℕ). Takes (record { number = n; old = old.sink; line = long; new = None; text = added })) number
       (subst (λ (s : S). Takes (record { number = mid.number; old = s; line = long; new = None; text = added })) sink (ended.0 long same)) in
       record {

@@ -12,9 +12,9 @@ pub record Limits : Type 0 where
   pub most : ℕ
   pub long_ends : Bool
 
--- what is kept of a line: the bytes that count, up to one too many
-abbrev pub kept : Limits → List ℕ → List ℕ
-kept limits line = take (limits.most + 1) (filter limits.counts line)
+-- what is buffered of a line: the bytes that count, up to one too many
+abbrev pub buffered : Limits → List ℕ → List ℕ
+buffered limits line = take (limits.most + 1) (filter limits.counts line)
 
 -- A sink is given a line of this number, and adds this text. It goes on as the other, or not at all.
 pub record LineStep (Sink : Type 0) : Type 0 where
@@ -32,9 +32,9 @@ abbrev pub OnTrue : Bool → Type 0 → Type 0
 OnTrue true P = P
 OnTrue false P = Unit {0}
 
--- So is every line given of which this is kept.
-abbrev pub TakesKept : {Sink : Type 0} → Limits → (Takes : LineStep Sink → Type 0) → LineStep Sink → Type 0
-TakesKept limits Takes step = (line : List ℕ) → kept limits line ≡ step.line
+-- So is every line given of which this is buffered.
+abbrev pub TakesBuffered : {Sink : Type 0} → Limits → (Takes : LineStep Sink → Type 0) → LineStep Sink → Type 0
+TakesBuffered limits Takes step = (line : List ℕ) → buffered limits line ≡ step.line
     → Takes (record { number = step.number; old = step.old; line = line; new = step.new; text = step.text })
 
 -- ---- lines

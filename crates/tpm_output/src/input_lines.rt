@@ -9,7 +9,7 @@ ghost use Rattle.tpm_output.specs.Faults.{FailsByMemoryOrWrite};
 ghost use Rattle.tpm_output.specs.InputLines.{AddedTo, CountsRead};
 ghost use Rattle.tpm_output.specs.inner.InputLines.{room_behind};
 ghost use Rattle.tpm_output.specs.LineSinks.{GoesOn, IsWhole, Limits, OnTrue, ReadsLines, ReadsOneMore, LineStep};
-ghost use Rattle.tpm_output.specs.LineSinks.{TakesKept, some_if};
+ghost use Rattle.tpm_output.specs.LineSinks.{TakesBuffered, some_if};
 ghost use Rattle.tpm_output.specs.inner.LineReading.{EndsLine, EndsAll, Feeds};
 
 use crate::answer::write;
@@ -59,7 +59,7 @@ pub trait LineSink {
         requires number { number + 1 < 2 ^ 64 }
         ensures { IfOk result (λ goes_on. (added : List ℕ)
             × AddedTo (string_bytes text.old) (string_bytes text.new) added
-            × TakesKept limits takes (record {
+            × TakesBuffered limits takes (record {
               number = number;
               old = self.old;
               line = line.now;
@@ -74,7 +74,7 @@ pub trait LineSink {
 #[derive(Drop)]
 struct LineReader<S: LineSink + Drop> {
     sink: S,
-    // what is kept of the present line, whether any byte of it has come, and its number
+    // what is buffered of the present line, whether any byte of it has come, and its number
     line: Vec<u8>,
     begun: bool,
     number: u64,

@@ -20,7 +20,7 @@ use Rattle.tpm_output.specs.Text.{bytes_line, line}
 use Rattle.tpm_output.specs.InputLines.{lines_of, most_bytes}
 use Rattle.tpm_output.proofs.InputLines.{ended_line, lines_of-append}
 use Rattle.tpm_output.specs.LineSinks.{GoesOn, IsWhole, OnTrue, Reading, ReadsLines, ReadsOneMore, LineStep, LinesEnd}
-use Rattle.tpm_output.specs.LineSinks.{LinesStart, StopsAt, TakesAll, TakesFrom, TakesKept, kept, some_if}
+use Rattle.tpm_output.specs.LineSinks.{LinesStart, StopsAt, TakesAll, TakesFrom, TakesBuffered, buffered, some_if}
 
 -- ---- the script of some lines
 
@@ -108,7 +108,7 @@ outcome r is f =
     subst (λ (k : ℕ). Outcome r.first r.left r.text (script_from 1 k (map line_of (lines_of r.bytes)))) is
     (runs (record { number = 1; sink = r.first }) (lines_of r.bytes) (record { left = r.left; text = r.text }) f)
 
--- ---- what is kept of a line
+-- ---- what is buffered of a line
 
 all_count : (xs : List ℕ) → filter (λ _. true) xs ≡ xs
 all_count [] = refl
@@ -117,8 +117,8 @@ all_count (x ∷ xs) = ap (λ (ys : List ℕ). x ∷ ys) (all_count xs)
 too_long : (text : List ℕ) → most_digits < length text → line_of text ≡ NotHexadecimal
 too_long text lt = rw (lt-ltb most_digits (length text) lt) refl
 
-line_of-kept : (line : List ℕ) → line_of (kept digits line) ≡ line_of line
-line_of-kept line = rw all_count (elim (cases_lt most_digits (length line)) [
+line_of-buffered : (line : List ℕ) → line_of (buffered digits line) ≡ line_of line
+line_of-buffered line = rw all_count (elim (cases_lt most_digits (length line)) [
   | inl many ↦ too_long (take (most_digits + 1) line) (omega (arith, length-take-le (most_digits + 1) line (omega (arith, many)))) ∙ sym (too_long line many)
   | inr few ↦ ap line_of (take_all (most_digits + 1) line (omega (arith, few)))
 ])
@@ -128,9 +128,9 @@ runs_to : (l : ScriptLine) (step : LineStep Run) (line : List ℕ) (new : Option
 runs_to l step line (Some new) f = f
 runs_to l step line None f = f
 
-pub takes_kept : (step : LineStep Run) → Runs step → TakesKept digits Runs step
-takes_kept step f = λ line same.
-    runs_to (line_of line) step line step.new (subst (λ (l : ScriptLine). RunsTo l step step.new) (ap line_of (sym same) ∙ line_of-kept line) f)
+pub takes_buffered : (step : LineStep Run) → Runs step → TakesBuffered digits Runs step
+takes_buffered step f = λ line same.
+    runs_to (line_of line) step line step.new (subst (λ (l : ScriptLine). RunsTo l step step.new) (ap line_of (sym same) ∙ line_of-buffered line) f)
 
 pub short : (goes_on : Bool) (n : ℕ) (old new : Run) (line text : List ℕ)
     → Runs (record { number = n; old = old; line = line; new = some_if goes_on new; text = text })

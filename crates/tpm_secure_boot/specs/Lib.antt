@@ -1,5 +1,5 @@
 pub mod SecureBoot
-pub mod Found
+pub mod BootPolicy
 pub mod Telling
 pub mod Vouching
 pub mod inner

@@ -1,2 +1,2 @@
 -- Definitions that serve proofs alone: no contract that is handed out names them.
-pub mod Found
+pub mod BootPolicy

@@ -6,7 +6,7 @@ use Rattle.std.proofs.lemmas.List.{append-nil, take_all}
 use Rattle.tpm_output.specs.declared.status.Status.TheVariants.{Done, Refused}
 use Rattle.tpm_output.specs.declared.status.Status.{Status}
 use Rattle.tpm_output.specs.InputLines.{lines_of}
-use Rattle.tpm_output.specs.LineSinks.{GoesOn, IsWhole, ReadsLines, TakesAll, TakesFrom, TakesKept}
+use Rattle.tpm_output.specs.LineSinks.{GoesOn, IsWhole, ReadsLines, TakesAll, TakesFrom, TakesBuffered}
 use Rattle.tpm_output.specs.Status.{both}
 use Rattle.tpm_show.specs.declared.telling.Telling.{Telling}
 use Rattle.tpm_show.specs.declared.capture.Capture.{Capture}
@@ -48,25 +48,25 @@ tells_both p (x ∷ xs) ys s t a b f g = (
 pub tells_one : (p : CapturePlace) (l : CaptureLine) (s : Status) (a : List ℕ) → TellsLine p l s a → TellsFrom p (l ∷ []) s a
 tells_one p l s a f = (s, a, Done, [], f, (refl, refl), sym (both_done s), sym (append-nil a))
 
--- ---- a line of which no more is kept than one byte too many
+-- ---- a line of which no more is buffered than one byte too many
 
 told_long : (first : ℕ) (rest others : List ℕ) → most_line < length (first ∷ rest) → most_line < length (first ∷ others)
     → told_in (first ∷ rest) ≡ told_in (first ∷ others)
 told_long first rest others f g = rw (lt-ltb most_line (length (first ∷ rest)) f, lt-ltb most_line (length (first ∷ others)) g) refl
 
 -- Of a line that has one byte too many, more makes no difference.
-told_kept : (kept : List ℕ) → told_in (take (most_line + 1) kept) ≡ told_in kept
-told_kept [] = refl
-told_kept (first ∷ rest) = elim (cases_lt (most_line + 1) (length (first ∷ rest))) [
+told_buffered : (buffered : List ℕ) → told_in (take (most_line + 1) buffered) ≡ told_in buffered
+told_buffered [] = refl
+told_buffered (first ∷ rest) = elim (cases_lt (most_line + 1) (length (first ∷ rest))) [
   | inl many ↦ told_long first (take most_line rest) rest (omega (arith, length-take-le most_line rest (omega (arith, many)))) (omega (arith, many))
   | inr few ↦ ap told_in (take_all (most_line + 1) (first ∷ rest) few)
 ]
 
--- What is told of what is kept of a line is told of the line.
-pub takes_kept : (n : ℕ) (old new : Capture) (line : List ℕ) (Added : List ℕ → Type 0) → (f : TellsNext (told_in line) old new Added)
-    → TakesKept capture_line TellsStep (record { number = n; old = old; line = line; new = Some new; text = f.text })
-takes_kept n old new line Added f = λ whole same.
-    let is : told_in line ≡ line_of whole = ap told_in (sym same) ∙ told_kept (without_blanks whole) in
+-- What is told of what is buffered of a line is told of the line.
+pub takes_buffered : (n : ℕ) (old new : Capture) (line : List ℕ) (Added : List ℕ → Type 0) → (f : TellsNext (told_in line) old new Added)
+    → TakesBuffered capture_line TellsStep (record { number = n; old = old; line = line; new = Some new; text = f.text })
+takes_buffered n old new line Added f = λ whole same.
+    let is : told_in line ≡ line_of whole = ap told_in (sym same) ∙ told_buffered (without_blanks whole) in
     record {
       status = f.status;
       text = f.text;

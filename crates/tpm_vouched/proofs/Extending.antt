@@ -7,9 +7,9 @@ use Rattle.std.specs.Prelude.{◌&&◌, if◌then◌else◌}
 use Rattle.tpm_types.specs.declared.alg.Alg.{Alg}
 use Rattle.tpm_hmac.specs.Hashes.{digest}
 use Rattle.tpm_pcr.specs.Registers.{Change, register_value, start_value, extended, locality_value}
-use Rattle.tpm_log.specs.Records.{LogRecord, named_locality, told_locality, locality_of}
+use Rattle.tpm_log.specs.Records.{LogRecord, named_locality, event_locality, locality_of}
 use Rattle.tpm_log.specs.Changes.{changes_by, log_changes}
-use Rattle.tpm_vouched.specs.Extends.{digests_extended, digests_extending, start_told, starts, value_before, value_left}
+use Rattle.tpm_vouched.specs.Extends.{digests_extended, digests_extending, start_changes, starts, value_before, value_left}
 use Rattle.tpm_vouched.proofs.Timely.{AreTimely, ends}
 
 extended_append : (bank : Alg) (old : List ℕ) (xs ys : List (List ℕ)) → extended bank old (xs ++ ys) ≡ extended bank (extended bank old xs) ys
@@ -17,7 +17,7 @@ extended_append bank old [] ys = refl
 extended_append bank old (x ∷ xs) ys = extended_append bank (digest bank (old ++ x)) xs ys
 
 -- a record that tells a locality is one of EV_NO_ACTION
-locality_kind : (register kind : ℕ) (event : List ℕ) (n : ℕ) → told_locality register kind event ≡ Some n → eqb kind 3 ≡ true
+locality_kind : (register kind : ℕ) (event : List ℕ) (n : ℕ) → event_locality register kind event ≡ Some n → eqb kind 3 ≡ true
 locality_kind register kind event n e = by (eqb register 0) (eqb kind 3) (eqb (length event) 17) e
   where
     by : (a b c : Bool) → (if a && b && c then named_locality event else None) ≡ Some n → b ≡ true
@@ -64,15 +64,15 @@ module _ (bank : Alg) (q : ℕ) where
       ∙ all_steps es (changes_by e ++ cs)
       ∙ ap (λ (v : List ℕ). through v es) (step e cs)
 
-  start_step : (o : Option ℕ) (cs : List Change) → register_value (start_told o ++ cs) bank q ≡ located o (register_value cs bank q)
+  start_step : (o : Option ℕ) (cs : List Change) → register_value (start_changes o ++ cs) bank q ≡ located o (register_value cs bank q)
   start_step None cs = refl
   start_step (Some n) cs = refl
 
   all_starts : (es : List LogRecord) (cs : List Change) → register_value (starts es ++ cs) bank q ≡ begun (register_value cs bank q) es
   all_starts [] cs = refl
   all_starts (e ∷ es) cs =
-      ap (λ (x : List Change). register_value x bank q) (append_assoc (starts es) (start_told (locality_of e)) cs)
-      ∙ all_starts es (start_told (locality_of e) ++ cs)
+      ap (λ (x : List Change). register_value x bank q) (append_assoc (starts es) (start_changes (locality_of e)) cs)
+      ∙ all_starts es (start_changes (locality_of e) ++ cs)
       ∙ ap (λ (v : List ℕ). begun v es) (start_step (locality_of e) cs)
 
   -- ---- the starts come first

@@ -14,7 +14,7 @@ use Rattle.tpm_log.specs.Logs.{log_rules}
 use Rattle.tpm_log.specs.Numbers.{little_endian}
 use Rattle.tpm_log.specs.Headers.{header}
 use Rattle.tpm_log.specs.Records.{LogRecord, digests, ends_locality, event, head, is_late, judge_locality, locality_of, log, log_record}
-use Rattle.tpm_log.specs.Records.{record_at, record_of, told_locality, unless_refused}
+use Rattle.tpm_log.specs.Records.{record_at, record_of, event_locality, unless_refused}
 use Rattle.tpm_log.proofs.Rules.{log_sound}
 use Rattle.tpm_log.proofs.Sound.{entries_keep, finished}
 use Rattle.tpm_log.proofs.Tokens.{okay, okay_is, token_ok}
@@ -58,15 +58,15 @@ unrefused late o bytes x e = go (judge_locality late o) e
     go (Err f) e = absurd (let z : ⊥ = cc in z)
 
 event_timely : (late m : Bool) (register kind : ℕ) (h : Here) (x : List ℕ × Here) → read m (event late register kind) h ≡ Ok x
-    → late ≡ true → told_locality register kind x.0 ≡ None
+    → late ≡ true → event_locality register kind x.0 ≡ None
 unfolding event
 event_timely late m register kind h x e is =
-    let judge : List ℕ → Result (List ℕ) LogFaultKind = λ bytes. unless_refused (judge_locality late (told_locality register kind bytes)) bytes in
+    let judge : List ℕ → Result (List ℕ) LogFaultKind = λ bytes. unless_refused (judge_locality late (event_locality register kind bytes)) bytes in
     let a = bind_ok (read m (little_endian 4) h) _ x e in
     let found = token_ok a.0.0 judge (λ bytes. bytes) m a.0.1 x a.2 in
     let bytes = take a.0.0 a.0.1.rest in
-    let same : bytes ≡ x.0 = unrefused late (told_locality register kind bytes) bytes x.0 found.0 in
-    subst (λ (z : List ℕ). told_locality register kind z ≡ None) same (allowed late (told_locality register kind bytes) bytes x.0 found.0 is)
+    let same : bytes ≡ x.0 = unrefused late (event_locality register kind bytes) bytes x.0 found.0 in
+    subst (λ (z : List ℕ). event_locality register kind z ≡ None) same (allowed late (event_locality register kind bytes) bytes x.0 found.0 is)
 
 record_timely : (hashes : List AlgorithmSize) (late m : Bool) (h : Here) (x : LogRecord × Here) → read m (record_at hashes late) h ≡ Ok x
     → late ≡ true → locality_of x.0 ≡ None

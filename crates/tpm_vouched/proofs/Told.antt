@@ -26,7 +26,7 @@ use Rattle.tpm_log.proofs.Named.{AreNamed, log_named}
 use Rattle.tpm_log.proofs.Sound.{IsSound, log_ok}
 use Rattle.tpm_vouched.specs.Extends.{extends}
 use Rattle.tpm_vouched.specs.Record.{is_vouched, vouched, vouched_in}
-use Rattle.tpm_vouched.specs.Vouched.{Measured, ReadLog, TextOfPart, measured, measured_by, part_told, parts_in, parts_told, with_part}
+use Rattle.tpm_vouched.specs.Vouched.{Measured, ReadLog, TextOfPart, measured, measured_by, vouched_part, parts_in, vouched_parts, with_part}
 use Rattle.tpm_vouched.proofs.Parts.{or_false}
 use Rattle.tpm_vouched.proofs.OneDigest.{is_digest_in, one_digest}
 
@@ -38,7 +38,7 @@ with part text = record { part = part; text = text }
 -- The first part that a test takes is that of the first text that it takes.
 first_taken : (d event value text whole cut : List ℕ) (a b c w z : Bool)
     → (if a then parts.Data else if b then parts.Variable else if c || w then parts.Text else if z then parts.Cut else parts.Other)
-    ≡ part_told (
+    ≡ vouched_part (
       d,
       if a then Some (with parts.Data event)
           else if b then Some (with parts.Variable value)
@@ -55,7 +55,7 @@ first_taken d event value text whole cut false false false false false = refl
 
 -- where a test of the record's digests is one of this digest
 part_is : (bank : Alg) (d : List ℕ) (e : Shown) → ((text : List ℕ) → measures (bank ∷ []) e.digests text ≡ pointwise nat_eq d (digest bank text))
-    → measured_part (bank ∷ []) e ≡ part_told (with_part bank e d)
+    → measured_part (bank ∷ []) e ≡ vouched_part (with_part bank e d)
 part_is bank d e same = go (value_of e.kind e.event) refl (loader_text e.kind e.event) refl
   where
     is : List ℕ → Bool
@@ -65,7 +65,7 @@ part_is bank d e same = go (value_of e.kind e.event) refl (loader_text e.kind e.
     cut = without_last e.event
 
     go : (v : Option (List ℕ)) → value_of e.kind e.event ≡ v → (t : Option (List ℕ)) → loader_text e.kind e.event ≡ t
-        → measured_part (bank ∷ []) e ≡ part_told (with_part bank e d)
+        → measured_part (bank ∷ []) e ≡ vouched_part (with_part bank e d)
     go None v None t = rw (v, t, same e.event, same cut) (first_taken d e.event [] [] [] cut (is e.event) false false false (is cut))
     go (Some value) v None t =
         rw (v, t, same e.event, same value, same cut) (first_taken d e.event value [] [] cut (is e.event) (is value) false false (is cut))
@@ -125,17 +125,17 @@ there_is register kind recorded other = go (nat_le register 16) refl (eqb regist
 -- the record's own digest in the bank
 record_told : (sels : List Selection) (bank : Alg) (hashes : List AlgorithmSize) (e : LogRecord) → IsSound hashes e → AreNamed e.digests
     → is_among sels (register_of bank e.register) ≡ true → eqb e.kind 3 ≡ false
-    → parts_in bank (vouched sels (shown e)) ≡ map part_told (map (with_part bank (shown e)) (digests_for bank (bank_digests e.digests)))
+    → parts_in bank (vouched sels (shown e)) ≡ map vouched_part (map (with_part bank (shown e)) (digests_for bank (bank_digests e.digests)))
 record_told sels bank hashes e sound named selected other =
     of_bank sels bank (shown e) ∙ go (digest_in bank (map by_number e.digests)) refl
-    ∙ ap (λ (ds : List (List ℕ)). map part_told (map (with_part bank (shown e)) ds)) (sym (one_digest bank e.digests named sound.digests.distinct))
+    ∙ ap (λ (ds : List (List ℕ)). map vouched_part (map (with_part bank (shown e)) ds)) (sym (one_digest bank e.digests named sound.digests.distinct))
   where
     there : is_pcr e.register ≡ true
     there = there_is e.register e.kind sound.recorded other
 
     go : (o : Option (List ℕ)) → digest_in bank (map by_number e.digests) ≡ o
         → (if is_vouched sels (shown e) bank then part_in (shown e) bank ∷ [] else [])
-        ≡ map part_told (map (with_part bank (shown e)) (option_to_list (digest_in bank (map by_number e.digests))))
+        ≡ map vouched_part (map (with_part bank (shown e)) (option_to_list (digest_in bank (map by_number e.digests))))
     go None o = rw (other, there, o) refl
     go (Some d) o =
         rw (other, there, o, selected)
@@ -146,11 +146,11 @@ record_told sels bank hashes e sound named selected other =
 
 one_told : (sels : List Selection) (bank : Alg) (register : ℕ) (hashes : List AlgorithmSize) (e : LogRecord) → IsSound hashes e → AreNamed e.digests
     → is_among sels (register_of bank register) ≡ true
-    → (if eqb e.register register then parts_in bank (vouched sels (shown e)) else []) ≡ map part_told (measured_by bank register e)
+    → (if eqb e.register register then parts_in bank (vouched sels (shown e)) else []) ≡ map vouched_part (measured_by bank register e)
 one_told sels bank register hashes e sound named selected = go (eqb e.register register) refl (eqb e.kind 3) refl
   where
     go : (r : Bool) → eqb e.register register ≡ r → (k : Bool) → eqb e.kind 3 ≡ k
-        → (if eqb e.register register then parts_in bank (vouched sels (shown e)) else []) ≡ map part_told (measured_by bank register e)
+        → (if eqb e.register register then parts_in bank (vouched sels (shown e)) else []) ≡ map vouched_part (measured_by bank register e)
     go false r k is = rw r refl
     go true r true is = rw (r, is) refl
     go true r false is =
@@ -159,21 +159,21 @@ one_told sels bank register hashes e sound named selected = go (eqb e.register r
         let ms : List Measured = map (with_part bank (shown e)) (digests_for bank (bank_digests e.digests)) in
         ap (λ (b : Bool). if b then parts_in bank (vouched sels (shown e)) else []) r
         ∙ record_told sels bank hashes e sound named (ap (λ (q : ℕ). is_among sels (register_of bank q)) same ∙ selected) is
-        ∙ ap (λ (b : Bool). map part_told (if b then ms else [])) (sym on)
+        ∙ ap (λ (b : Bool). map vouched_part (if b then ms else [])) (sym on)
 
 all_told : (sels : List Selection) (bank : Alg) (register : ℕ) (hashes : List AlgorithmSize) (es : List LogRecord) → All (IsSound hashes) es
     → All (λ e. AreNamed e.digests) es → is_among sels (register_of bank register) ≡ true
-    → parts_told sels bank register es ≡ map part_told (measured bank register es)
+    → vouched_parts sels bank register es ≡ map vouched_part (measured bank register es)
 all_told sels bank register hashes [] sound named selected = refl
 all_told sels bank register hashes (e ∷ es) sound named selected =
     let first = one_told sels bank register hashes e (All-head (IsSound hashes) e es sound) (All-head (λ e. AreNamed e.digests) e es named) selected in
     let others = all_told sels bank register hashes es (All-tail (IsSound hashes) e es sound) (All-tail (λ e. AreNamed e.digests) e es named) selected in
-    ap (λ (l : List MeasuredPart). l ++ parts_told sels bank register es) first
-    ∙ ap (λ (l : List MeasuredPart). map part_told (measured_by bank register e) ++ l) others
-    ∙ sym (map-append part_told (measured_by bank register e) (measured bank register es))
+    ap (λ (l : List MeasuredPart). l ++ vouched_parts sels bank register es) first
+    ∙ ap (λ (l : List MeasuredPart). map vouched_part (measured_by bank register e) ++ l) others
+    ∙ sym (map-append vouched_part (measured_by bank register e) (measured bank register es))
 
 pub told : (sels : List Selection) (bank : Alg) (register : ℕ) (l : ReadLog) → is_among sels (register_of bank register) ≡ true
-    → parts_told sels bank register l.records ≡ map part_told (measured bank register l.records)
+    → vouched_parts sels bank register l.records ≡ map vouched_part (measured bank register l.records)
 told sels bank register l selected =
     all_told sels bank register l.hashes l.records (log_ok l.hashes l.records l.bytes l.spelled)
     (log_named l.hashes l.records l.bytes l.spelled) selected

@@ -21,14 +21,14 @@ digests_extending bank register e = if extends register e then digests_for bank 
 abbrev pub digests_extended : Alg → (register : ℕ) → List LogRecord → List (List ℕ)
 digests_extended bank register records = flat_map (digests_extending bank register) records
 
-abbrev pub start_told : Option ℕ → List Change
-start_told None = []
-start_told (Some locality) = StartAt locality ∷ []
+abbrev pub start_changes : Option ℕ → List Change
+start_changes None = []
+start_changes (Some locality) = StartAt locality ∷ []
 
 -- the starts that the records of a log tell, the newest first
 abbrev pub starts : List LogRecord → List Change
 starts [] = []
-starts (e ∷ es) = starts es ++ start_told (locality_of e)
+starts (e ∷ es) = starts es ++ start_changes (locality_of e)
 
 -- the value that a register has before it is extended: of register 0 that of the locality that the log tells
 abbrev pub value_before : Alg → (register : ℕ) → List LogRecord → List ℕ

@@ -85,20 +85,20 @@ pub record SameMeasured (bank : Alg) (register : ℕ) (one other : List LogRecor
   pub digests : digests_extended bank register one ≡ digests_extended bank register other
   pub each : AreSame (measured bank register one) (measured bank register other)
 
--- ---- what is told as vouched
+-- ---- what is vouched for
 
--- the part that is told of a digest
-abbrev pub part_told : Measured → MeasuredPart
-part_told (of_bank, None) = parts.Other
-part_told (of_bank, Some p) = p.part
+-- the part that a digest vouches for
+abbrev pub vouched_part : Measured → MeasuredPart
+vouched_part (of_bank, None) = parts.Other
+vouched_part (of_bank, Some p) = p.part
 
 -- what is told of a record in a bank
 abbrev pub parts_in : Alg → List VouchedPart → List MeasuredPart
 parts_in bank those = map (λ v. v.part) (filter (λ v. alg_number v.bank == alg_number bank) those)
 
 -- what is told of all records of a register, in the log's order
-abbrev pub parts_told : List Selection → Alg → (register : ℕ) → List LogRecord → List MeasuredPart
-parts_told sels bank register records =
+abbrev pub vouched_parts : List Selection → Alg → (register : ℕ) → List LogRecord → List MeasuredPart
+vouched_parts sels bank register records =
     flat_map (λ e. if e.register == register then parts_in bank (vouched sels (shown e)) else []) records
 
 -- ---- premises

@@ -9,7 +9,7 @@ ghost use Rattle.tpm_vouched.specs.declared.allowed.AllowedDigest.{AllowedDigest
 ghost use Rattle.tpm_vouched.specs.Allowed.{AreAllowed, NoneIsUnknown, names};
 ghost use Rattle.tpm_vouched.specs.Extends.{value_left};
 ghost use Rattle.tpm_vouched.specs.Vouched.{AreApart, QuoteApart, QuotedLog, ReadLog, SameMeasured};
-ghost use Rattle.tpm_vouched.specs.Vouched.{measured, part_told, parts_told};
+ghost use Rattle.tpm_vouched.specs.Vouched.{measured, vouched_part, vouched_parts};
 
 /// Two logs that leave the same value in a register of a bank have the same digests extended there, in the same order,
 /// from the same value: of register 0 that of the locality that they tell. So they measured the same there, record by
@@ -44,8 +44,8 @@ pub fn records_of_the_quote()
 pub fn vouched_of_the_log()
     ensures { (selections : List Selection) (bank : Alg) (register : ℕ) (log : ReadLog)
         → is_among selections (register_of bank register) ≡ true
-        → parts_told selections bank register log.records
-        ≡ map part_told (measured bank register log.records) }
+        → vouched_parts selections bank register log.records
+        ≡ map vouched_part (measured bank register log.records) }
 {}
 
 /// Where a list names a register of a bank, and `AllowList::unknown` tells the bank of no record of that register, each

@@ -4,7 +4,7 @@ use crate::tests::rows::{Asked, code, codes, ends, has, holds, made, names, rows
 use arrayvec::ArrayVec;
 use std::process::Abort;
 use std::test::*;
-use tpm_event_data::{Content, DataKind, Event, Held, data_kind, packed_paths};
+use tpm_event_data::{Content, DataKind, Event, TypedValue, data_kind, packed_paths};
 use tpm_testing::word;
 
 // OPTION is "ubuntu" with the device paths PATHS, of which the first is \EFI\A.EFI and the second its end alone. DB
@@ -48,7 +48,7 @@ fn says(rt: &impl Abort, told: &mut &str, content: Content<'_>) {
         Content::VersionGuid(guid) => says_bytes(rt, told, "guid", guid),
         Content::Separator(number) => says_number(rt, told, "separator", number as u64),
         Content::Locality(number) => says_number(rt, told, "locality", number as u64),
-        Content::Variable(_, held) => holds_value(rt, told, held),
+        Content::Variable(_, typed) => holds_value(rt, told, typed),
         Content::Image(image) => {
             says_bytes(rt, told, "image", image.path);
             has(rt, BYTES, told, image.rest);
@@ -58,15 +58,15 @@ fn says(rt: &impl Abort, told: &mut &str, content: Content<'_>) {
     }
 }
 
-fn holds_value(rt: &impl Abort, told: &mut &str, held: Held<'_>) {
-    match held {
-        Held::Byte(byte) => says_number(rt, told, "byte", byte as u64),
-        Held::Empty => names(rt, told, "empty"),
-        Held::Bytes => names(rt, told, "bytes"),
-        Held::BootOrder(numbers) => says_bytes(rt, told, "order", numbers),
-        Held::LoadOption(option) => says_bytes(rt, told, "option", option.path),
-        Held::Signatures(lists) => says_bytes(rt, told, "signatures", lists),
-        Held::Signature(one) => says_bytes(rt, told, "signature", one.value),
+fn holds_value(rt: &impl Abort, told: &mut &str, typed: TypedValue<'_>) {
+    match typed {
+        TypedValue::Byte(byte) => says_number(rt, told, "byte", byte as u64),
+        TypedValue::Empty => names(rt, told, "empty"),
+        TypedValue::Bytes => names(rt, told, "bytes"),
+        TypedValue::BootOrder(numbers) => says_bytes(rt, told, "order", numbers),
+        TypedValue::LoadOption(option) => says_bytes(rt, told, "option", option.path),
+        TypedValue::Signatures(lists) => says_bytes(rt, told, "signatures", lists),
+        TypedValue::Signature(one) => says_bytes(rt, told, "signature", one.value),
     }
 }
 

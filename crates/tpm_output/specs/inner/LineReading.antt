@@ -2,19 +2,20 @@
 use Rattle.std.specs.Prelude.{◌≡◌, ℕ, ◌+◌, ◌≤◌, Bool, true, false, List, [], ◌∷◌, ◌++◌, length}
 use Rattle.tpm_output.specs.declared.input_lines.LineReader.{LineReader}
 use Rattle.tpm_output.specs.InputLines.{lines_of}
-use Rattle.tpm_output.specs.LineSinks.{GoesOn, Limits, OnTrue, LineStep, StopsAt, TakesAll, TakesKept, kept, some_if}
+use Rattle.tpm_output.specs.LineSinks.{GoesOn, Limits, OnTrue, LineStep, StopsAt, TakesAll}
+use Rattle.tpm_output.specs.LineSinks.{TakesBuffered, buffered, some_if}
 
 abbrev pub has_some : List ℕ → Bool
 has_some [] = false
 has_some (byte ∷ bytes) = true
 
 module _ {S : Type 0} (limits : Limits) (Takes : LineStep S → Type 0) where
-  -- All these bytes were taken, with this text: the lines that have ended, and of the present one what is kept.
+  -- All these bytes were taken, with this text: the lines that have ended, and of the present one what is buffered.
   pub record Holds (first : S) (bytes text : List ℕ) (r : LineReader S) : Type 0 where
     pub goes : GoesOn limits Takes first bytes
     pub sink : goes.sink ≡ r.sink
     pub same : goes.text ≡ text
-    pub line : r.line.items ≡ kept limits goes.line
+    pub line : r.line.items ≡ buffered limits goes.line
     pub begun : r.begun ≡ has_some goes.line
     pub number : r.number ≡ 1 + length (lines_of goes.lines)
 
@@ -41,7 +42,7 @@ module _ {S : Type 0} (limits : Limits) (Takes : LineStep S → Type 0) where
   -- The present line was given to the sink.
   abbrev pub EndsLine : (IsAt : ℕ → S → Type 0) → Bool → (old new : LineReader S) → (added : List ℕ) → Type 0
   EndsLine IsAt goes_on old new added =
-      TakesKept limits Takes (record {
+      TakesBuffered limits Takes (record {
         number = old.number;
         old = old.sink;
         line = old.line.items;

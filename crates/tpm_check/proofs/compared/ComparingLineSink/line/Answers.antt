@@ -4,7 +4,7 @@ use Rattle.tpm_output.specs.LineSinks.{some_if}
 use Rattle.tpm_check.specs.Compare.{line_under}
 use Rattle.tpm_check.specs.inner.Comparing.{line_text}
 use Rattle.tpm_check.specs.inner.Told.{told}
-use Rattle.tpm_check.proofs.Comparisons.{anywhere, short, takes_kept}
+use Rattle.tpm_check.proofs.Comparisons.{anywhere, short, takes_buffered}
 use Rattle.tpm_check.proofs.compared.ComparingLineSink.line.Goals as goal
 
 pub returns : goal.returns
@@ -15,7 +15,7 @@ returns c =
     IfOk-weaker c.compare_line.result _ _ (λ goes_on done. (
       text,
       done.1,
-      takes_kept (record { number = c.args.number; old = old; line = line; new = some_if goes_on c.compare_line.new.self; text = text }) (done.0, refl),
+      takes_buffered (record { number = c.args.number; old = old; line = line; new = some_if goes_on c.compare_line.new.self; text = text }) (done.0, refl),
       anywhere goes_on,
       short goes_on old c.compare_line.new.self line done.0,
     )) c.compare_line.ensures
