@@ -13,7 +13,7 @@ ghost use Rattle.tpm_buffer.specs.CommandAreas.{IsAreas, HasAreas, IsSpelledBy};
 ghost use Rattle.tpm_buffer.specs.inner.CommandAreas.{cut_of};
 
 use crate::command_header::{long_fault, take_header};
-use crate::command_sessions::{AuthRef, read_authorization, take_authorization};
+use crate::command_sessions::{AuthRef, read_authorization, take_authorization_to};
 use arrayvec::ArrayVec;
 use std::marker::Model;
 use tpm_commands::{Header, take_handles};
@@ -151,7 +151,8 @@ fn read_sessions(handled: Handled<'_>) -> Result<Areas<'_>, Refusal>
     let header = handled.header;
     let handles = handled.handles;
     let mut cursor = handled.cursor;
-    let auths = take_authorization(&mut cursor, header.tag)?;
+    let mut auths = ArrayVec::new();
+    take_authorization_to(&mut cursor, header.tag, &mut auths)?;
     let params_at = cursor.at();
     Ok(Areas {
         header,
@@ -271,8 +272,10 @@ pub(crate) fn read_before_params(
     Ok((header, handles))
 }
 
-// All that stands before the parameters of the command, and the parameters as they came.
+// All that stands before the parameters of the command, and the parameters as they came. It is out of line: in line,
+// what is answered would be copied once more on each way out of it.
 #[tactic(auto, unfolding(crate::specs::Commands::before_params))]
+#[inline(never)]
 fn short_areas(bytes: &[u8]) -> Result<Areas<'_>, Refusal>
     requires { length bytes.now ≤ 4096 }
     ensures reads { Gives areas_view (read 0 before_params (at_start bytes.now)) result }
@@ -281,7 +284,8 @@ fn short_areas(bytes: &[u8]) -> Result<Areas<'_>, Refusal>
     let mut cursor = Cursor::new(bytes);
     let header = take_header(&mut cursor)?;
     let handles = take_handles(&mut cursor, header.code)?;
-    let auths = take_authorization(&mut cursor, header.tag)?;
+    let mut auths = ArrayVec::new();
+    take_authorization_to(&mut cursor, header.tag, &mut auths)?;
     let params_at = cursor.at();
     Ok(Areas {
         header,

@@ -1,7 +1,6 @@
 //! A command's authorization area (Part 1, "Command/Response Structure"): its sessions.
 
 ghost use Rattle.std.specs.Prelude.{◌≡◌, ◌≢◌, ◌<◌, ◌≤◌, [], ◌∷◌, ◌++◌, IfOk, OnOk, length};
-ghost use Rattle.tpm_types.specs.declared.tpms.Auth.{Auth as AuthOf};
 ghost use Rattle.tpm_types.specs.Limits.{digest_bytes};
 ghost use Rattle.tpm_types.specs.Tpms.{auth_command};
 ghost use Rattle.tpm_wire.specs.Spelling.{spelling};
@@ -10,7 +9,7 @@ ghost use Rattle.tpm_buffer.specs.Commands.{sessions, authorization_size, author
 ghost use Rattle.tpm_buffer.specs.inner.CommandAreas.{LeavesAuthorization};
 
 use crate::command_header::SESSIONS;
-use crate::response_sessions::{self, ReplyRef};
+use crate::response_sessions::{self, ReplyRef, copy_part};
 use arrayvec::ArrayVec;
 use std::marker::Model;
 use tpm_types::{Auth, AuthSession, SessionAttrs};
@@ -58,6 +57,16 @@ impl<'a> AuthRef<'a> {
         }
     }
 
+    // Makes the other one this session.
+    fn copy_to(&self, other: &mut Auth)
+        ensures { other.new ≡ self.now }
+    {
+        other.session = self.session;
+        copy_part(&mut other.nonce, self.nonce());
+        other.attrs = self.attrs();
+        copy_part(&mut other.hmac, self.hmac());
+    }
+
     /// The session, or the password.
     pub fn session(&self) -> AuthSession
         ensures { result ≡ self.now.session }
@@ -102,22 +111,26 @@ fn take_session<'a>(cursor: &mut Cursor<'a>) -> Result<AuthRef<'a>, Refusal>
     Ok(AuthRef { session, shared })
 }
 
-// The sessions to the end of the area: at most three.
+// Takes the sessions to the end of the area: at most three. They are put where they stay, since what is answered is
+// copied.
 #[tactic(auto, unfolding(crate::specs::Commands::sessions))]
-fn take_sessions<'a>(cursor: &mut Cursor<'a>) -> Result<ArrayVec<AuthRef<'a>, 3>, Refusal>
-    ensures reads { TakesNumbered (λ v. v.items) sessions cursor.old cursor.new result }
-    ensures spelled { IfOk result
-        (λ v. cursor.old.here.rest ≡ spelling sessions v.items ++ cursor.new.here.rest) }
-    ensures some { IfOk result
-        (λ v. length cursor.new.here.rest < length cursor.old.here.rest → 0 < length v.items) }
+fn take_sessions<'a>(
+    cursor: &mut Cursor<'a>,
+    auths: &mut ArrayVec<AuthRef<'a>, 3>,
+) -> Result<(), Refusal>
+    requires { auths.old.items ≡ [] }
+    ensures reads { TakesNumbered (λ _. auths.new.items) sessions cursor.old cursor.new result }
+    ensures spelled { OnOk result
+        (cursor.old.here.rest ≡ spelling sessions auths.new.items ++ cursor.new.here.rest) }
+    ensures some { OnOk result
+        (length cursor.new.here.rest < length cursor.old.here.rest → 0 < length auths.new.items) }
 {
-    let mut auths = ArrayVec::new();
     while cursor.left() > 0 && auths.len() < 3 {
         cursor.number(of_session(1 + auths.len() as u32));
         let session = take_session(cursor)?;
         auths.push(session);
     }
-    Ok(auths)
+    Ok(())
 }
 
 // Reads authorizationSize (Part 1, "Command/Response Structure"). AUTHSIZE at its place where it is less than the 9
@@ -150,10 +163,35 @@ fn leave_authorization<'a>(cursor: &mut Cursor<'a>, behind: Outer<'a>) -> Result
     }
 }
 
-/// Reads the sessions of a command with this tag, none for another than 0x8002, or answers the authorization area's
-/// first fault, as `Handled::areas` does (Part 1, "Command/Response Structure").
+/// Takes the sessions of a command with this tag, none for another than 0x8002, to where there are none yet.
 #[tactic(auto, unfolding(crate::specs::Commands::authorization))]
 #[inline(never)]
+pub(crate) fn take_authorization_to<'a>(
+    cursor: &mut Cursor<'a>,
+    tag: u16,
+    auths: &mut ArrayVec<AuthRef<'a>, 3>,
+) -> Result<(), Refusal>
+    requires { auths.old.items ≡ [] }
+    ensures reads { TakesNumbered (λ _. auths.new.items) (authorization tag)
+        cursor.old cursor.new result }
+    ensures spelled { OnOk result
+        (cursor.old.here.rest
+        ≡ spelling (authorization tag) auths.new.items ++ cursor.new.here.rest) }
+    ensures none { OnOk result (tag ≢ 0x8002 → length auths.new.items ≡ 0) }
+    ensures some { OnOk result (tag ≡ 0x8002 → 0 < length auths.new.items) }
+{
+    if tag != SESSIONS {
+        return Ok(());
+    }
+    cursor.number(0);
+    let size = take_authorization_size(cursor)? as usize;
+    let behind = cursor.enter(size)?;
+    take_sessions(cursor, auths)?;
+    leave_authorization(cursor, behind)
+}
+
+/// Reads the sessions of a command with this tag, none for another than 0x8002, or answers the authorization area's
+/// first fault, as `Handled::areas` does (Part 1, "Command/Response Structure").
 pub fn take_authorization<'a>(
     cursor: &mut Cursor<'a>,
     tag: u16,
@@ -164,50 +202,35 @@ pub fn take_authorization<'a>(
     ensures none { IfOk result (λ v. tag ≢ 0x8002 → length v.items ≡ 0) }
     ensures some { IfOk result (λ v. tag ≡ 0x8002 → 0 < length v.items) }
 {
-    if tag != SESSIONS {
-        return Ok(ArrayVec::new());
-    }
-    cursor.number(0);
-    let size = take_authorization_size(cursor)? as usize;
-    let behind = cursor.enter(size)?;
-    let auths = take_sessions(cursor)?;
-    leave_authorization(cursor, behind)?;
+    let mut auths = ArrayVec::new();
+    take_authorization_to(cursor, tag, &mut auths)?;
     Ok(auths)
 }
 
-// Adds a session that another one is read in the place of. It is out of line, where it is made in its
-// place; in line it is made elsewhere and copied.
+// Adds a copy of the session. It is out of line, where it is made in its place; in line it is made elsewhere and
+// copied.
 #[inline(never)]
-fn push_any(auths: &mut ArrayVec<Auth, 3>)
+fn push_copy(auths: &mut ArrayVec<Auth, 3>, session: &AuthRef<'_>)
     requires { length auths.old.items < 3 }
-    ensures { (a : AuthOf) × (auths.new.items ≡ auths.old.items ++ a ∷ []) }
+    ensures { auths.new.items ≡ auths.old.items ++ session.now ∷ [] }
 {
+    let last = auths.len();
     auths.push(Auth::default());
+    session.copy_to(&mut auths.as_mut_slice()[last]);
 }
 
-// Reads the sessions to the end of the area in the place of others: at most three.
-#[tactic(auto, unfolding(crate::specs::Commands::sessions))]
-#[inline(always)]
-fn read_sessions(cursor: &mut Cursor<'_>, auths: &mut ArrayVec<Auth, 3>) -> Result<(), Refusal>
-    ensures reads { TakesNumbered (λ _. auths.new.items) sessions cursor.old cursor.new result }
-    ensures spelled { OnOk result
-        (cursor.old.here.rest ≡ spelling sessions auths.new.items ++ cursor.new.here.rest) }
-    ensures some { OnOk result
-        (length cursor.new.here.rest < length cursor.old.here.rest → 0 < length auths.new.items) }
+// Puts copies of these sessions in the place of others.
+fn copy_all(sessions: &[AuthRef<'_>], auths: &mut ArrayVec<Auth, 3>)
+    requires { length sessions.now ≤ 3 }
+    ensures { auths.new.items ≡ sessions.now }
 {
     auths.clear();
-    while cursor.left() > 0 && auths.len() < 3 {
-        let last = auths.len();
-        cursor.number(of_session(1 + last as u32));
-        push_any(auths);
-        auths.as_mut_slice()[last].read(cursor)?;
+    for session in sessions {
+        push_copy(auths, session);
     }
-    Ok(())
 }
 
 /// Reads the sessions of a command with this tag in the place of others.
-#[tactic(auto, unfolding(crate::specs::Commands::authorization))]
-#[inline(never)]
 pub(crate) fn read_authorization(
     cursor: &mut Cursor<'_>,
     tag: u16,
@@ -221,13 +244,8 @@ pub(crate) fn read_authorization(
     ensures none { OnOk result (tag ≢ 0x8002 → length auths.new.items ≡ 0) }
     ensures some { OnOk result (tag ≡ 0x8002 → 0 < length auths.new.items) }
 {
-    if tag != SESSIONS {
-        auths.clear();
-        return Ok(());
-    }
-    cursor.number(0);
-    let size = take_authorization_size(cursor)? as usize;
-    let behind = cursor.enter(size)?;
-    read_sessions(cursor, auths)?;
-    leave_authorization(cursor, behind)
+    let mut lent = ArrayVec::new();
+    take_authorization_to(cursor, tag, &mut lent)?;
+    copy_all(lent.as_slice(), auths);
+    Ok(())
 }

@@ -1,6 +1,6 @@
 //! A response cut at its parameters, which are not judged.
 
-ghost use Rattle.std.specs.Prelude.{◌≡◌, ◌≤◌, ◌<◌, ◌↔◌, ◌+◌, ◌*◌, Ok, Err, IfOk, length, slice_get};
+ghost use Rattle.std.specs.Prelude.{◌≡◌, ℕ, ◌≤◌, ◌<◌, ◌↔◌, ◌+◌, ◌*◌, List, [], Ok, Err, IfOk, length, slice_get};
 ghost use Rattle.tpm_wire.specs.declared.refusal.Refusal.{Refusal as RefusalOf};
 ghost use Rattle.tpm_wire.specs.Token.{at_start};
 ghost use Rattle.tpm_wire.specs.Reading.{read_all};
@@ -9,7 +9,7 @@ ghost use Rattle.tpm_wire.specs.Path.{Spells, Fault};
 ghost use Rattle.tpm_buffer.specs.Responses.{ReplyCut, raw_with_sessions, raw_without_sessions, cut_behind_code};
 ghost use Rattle.tpm_buffer.specs.Responses.{reply_cut};
 ghost use Rattle.tpm_buffer.specs.ResponseAreas.{handle_of, place_of_params, HasItsParams};
-ghost use Rattle.tpm_buffer.specs.inner.ResponseAreas.{IsPlaceIn};
+ghost use Rattle.tpm_buffer.specs.inner.ResponseAreas.{IsPlaceIn, LiesIn, cut_by};
 ghost use Rattle.tpm_commands.specs.Replies.{handle_list};
 
 use crate::command_header::SESSIONS;
@@ -27,11 +27,17 @@ use tpm_wire::{Cursor, Refusal};
 #[derive(Drop)]
 pub struct ReplyAreas<'a> {
     bytes: &'a [u8],
+    front: Front,
+    auths: ArrayVec<ReplyRef<'a>, 3>,
+}
+
+// What a response says beside its sessions, which are put where they stay: what is answered is copied.
+#[derive(Drop)]
+struct Front {
     code: u32,
     handle: Option<SessionHandle>,
     params_at: u32,
     params_size: usize,
-    auths: ArrayVec<ReplyRef<'a>, 3>,
 }
 
 impl<'a> Model for ReplyAreas<'a> {
@@ -43,15 +49,15 @@ impl<'a> Model for ReplyAreas<'a> {
     ghost Value = { ReplyCut };
 
     ghost view = { λ a. record {
-      code = a.code;
-      handles = handle_list a.handle;
-      params = take a.params_size (drop a.params_at a.bytes.now);
+      code = a.front.code;
+      handles = handle_list a.front.handle;
+      params = take a.front.params_size (drop a.front.params_at a.bytes.now);
       auths = a.auths.items;
     } };
 
     ghost invariant = { λ a. (length a.bytes.now ≤ 4096)
-        × (a.params_at + a.params_size ≤ length a.bytes.now)
-        × (a.params_at ≡ place_behind (handle_list a.handle) a.auths.items) };
+        × (a.front.params_at + a.front.params_size ≤ length a.bytes.now)
+        × (a.front.params_at ≡ place_behind (handle_list a.front.handle) a.auths.items) };
 }
 
 impl<'a> ReplyAreas<'a> {
@@ -59,14 +65,14 @@ impl<'a> ReplyAreas<'a> {
     pub fn code(&self) -> u32
         ensures { result ≡ self.now.code }
     {
-        self.code
+        self.front.code
     }
 
     /// The number of the handle, where the response has one.
     pub fn handle(&self) -> Option<u32>
         ensures { result ≡ handle_of self.now }
     {
-        match self.handle {
+        match self.front.handle {
             Some(handle) => Some(handle.number()),
             None => None,
         }
@@ -91,8 +97,8 @@ impl<'a> ReplyAreas<'a> {
         ensures value { result.now ≡ self.now.params }
         ensures short { length result.now ≤ 4096 }
     {
-        let begin = self.params_at as usize;
-        &self.bytes[begin..begin + self.params_size]
+        let begin = self.front.params_at as usize;
+        &self.bytes[begin..begin + self.front.params_size]
     }
 
     /// How many bytes of the input are before the parameters.
@@ -100,96 +106,94 @@ impl<'a> ReplyAreas<'a> {
         ensures value { result ≡ place_of_params self.now }
         ensures fits { result ≤ 4096 }
     {
-        self.params_at
+        self.front.params_at
     }
 }
 
 #[tactic(auto, unfolding(crate::specs::Responses::raw_with_sessions))]
 fn take_with_sessions<'a>(
     cursor: &mut Cursor<'a>,
-    bytes: &'a [u8],
     code: u32,
     handle: Option<SessionHandle>,
-) -> Result<ReplyAreas<'a>, Refusal>
-    requires short { length bytes.now ≤ 4096 }
-    requires stands { IsPlaceIn bytes.now cursor.old.here }
+    auths: &mut ArrayVec<ReplyRef<'a>, 3>,
+) -> Result<Front, Refusal>
+    ghost bytes: { List ℕ }
+    requires stands { IsPlaceIn bytes cursor.old.here }
     requires place { cursor.old.here.at ≡ 10 + 4 * length (handle_list handle) }
-    ensures reads { TakesNumbered (λ c. c) (raw_with_sessions code (handle_list handle))
-        cursor.old cursor.new result }
-    ensures place { IfOk result (HasItsParams bytes.now) }
+    requires none { auths.old.items ≡ [] }
+    ensures reads { TakesNumbered (λ f. cut_by bytes f auths.new.items)
+        (raw_with_sessions code (handle_list handle)) cursor.old cursor.new result }
+    ensures place { IfOk result (λ f. LiesIn bytes f auths.new.items) }
 {
     cursor.number(0);
     let params_size = take_parameter_size(cursor)? as usize;
     let params_at = cursor.at();
     cursor.bytes(params_size)?;
-    let auths = take_sessions(cursor)?;
-    Ok(ReplyAreas {
-        bytes,
+    take_sessions(cursor, auths)?;
+    Ok(Front {
         code,
         handle,
         params_at,
         params_size,
-        auths,
     })
 }
 
 #[tactic(auto, unfolding(crate::specs::Responses::raw_without_sessions))]
 fn take_behind_code<'a>(
     cursor: &mut Cursor<'a>,
-    bytes: &'a [u8],
     tag: u16,
     number: u32,
     code: CommandCode,
-) -> Result<ReplyAreas<'a>, Refusal>
-    requires short { length bytes.now ≤ 4096 }
-    requires stands { IsPlaceIn bytes.now cursor.old.here }
+    auths: &mut ArrayVec<ReplyRef<'a>, 3>,
+) -> Result<Front, Refusal>
+    ghost bytes: { List ℕ }
+    requires stands { IsPlaceIn bytes cursor.old.here }
     requires place { cursor.old.here.at ≡ 10 }
-    ensures reads { TakesNumbered (λ c. c) (cut_behind_code code tag number)
-        cursor.old cursor.new result }
-    ensures place { IfOk result (HasItsParams bytes.now) }
+    requires none { auths.old.items ≡ [] }
+    ensures reads { TakesNumbered (λ f. cut_by bytes f auths.new.items)
+        (cut_behind_code code tag number) cursor.old cursor.new result }
+    ensures place { IfOk result (λ f. LiesIn bytes f auths.new.items) }
 {
     if number != 0 {
-        return Ok(ReplyAreas {
-            bytes,
+        return Ok(Front {
             code: number,
             handle: None,
             params_at: cursor.at(),
             params_size: 0,
-            auths: ArrayVec::new(),
         });
     }
     let handle = take_reply_handle(cursor, code)?;
     if tag == SESSIONS {
-        return take_with_sessions(cursor, bytes, number, handle);
+        return take_with_sessions(cursor, number, handle, auths);
     }
     cursor.number(0);
     let params_at = cursor.at();
     let params_size = cursor.remaining().len();
-    Ok(ReplyAreas {
-        bytes,
+    Ok(Front {
         code: number,
         handle,
         params_at,
         params_size,
-        auths: ArrayVec::new(),
     })
 }
 
 #[tactic(auto, unfolding(crate::specs::Responses::reply_cut))]
 fn take_areas<'a>(
     cursor: &mut Cursor<'a>,
-    bytes: &'a [u8],
     code: CommandCode,
-) -> Result<ReplyAreas<'a>, Refusal>
-    requires short { length bytes.now ≤ 4096 }
+    auths: &mut ArrayVec<ReplyRef<'a>, 3>,
+) -> Result<Front, Refusal>
+    ghost bytes: { List ℕ }
     requires number { cursor.old.number ≡ 0 }
-    requires place { cursor.old.here ≡ at_start bytes.now }
-    ensures reads { TakesNumbered (λ c. c) (reply_cut code) cursor.old cursor.new result }
-    ensures place { IfOk result (HasItsParams bytes.now) }
+    requires place { cursor.old.here ≡ at_start bytes }
+    requires none { auths.old.items ≡ [] }
+    ensures reads { TakesNumbered (λ f. cut_by bytes f auths.new.items)
+        (reply_cut code) cursor.old cursor.new result }
+    ensures place { IfOk result (λ f. LiesIn bytes f auths.new.items) }
 {
     let (tag, _size) = take_front(cursor)?;
     let number = take_code(cursor, tag)?;
-    take_behind_code(cursor, bytes, tag, number, code)
+    take_behind_code(cursor, tag, number, code, auths)
 }
 
 #[tactic(auto, unfolding(crate::specs::Responses::reply_cut))]
@@ -200,6 +204,8 @@ fn refusal_of_long(code: CommandCode, bytes: &[u8]) -> Refusal
     long_fault(bytes)
 }
 
+// It is out of line, since its many ways out would each copy what is answered once more.
+#[inline(never)]
 fn read_areas(code: CommandCode, bytes: &[u8]) -> Result<ReplyAreas<'_>, Refusal>
     ensures reads { result ≡ read_all (reply_cut code) bytes.now }
     ensures place { IfOk result (HasItsParams bytes.now) }
@@ -208,9 +214,14 @@ fn read_areas(code: CommandCode, bytes: &[u8]) -> Result<ReplyAreas<'_>, Refusal
         return Err(refusal_of_long(code, bytes));
     }
     let mut cursor = Cursor::new(bytes);
-    let areas = take_areas(&mut cursor, bytes, code)?;
+    let mut auths = ArrayVec::new();
+    let front = take_areas(&mut cursor, code, &mut auths)?;
     cursor.end()?;
-    Ok(areas)
+    Ok(ReplyAreas {
+        bytes,
+        front,
+        auths,
+    })
 }
 
 /// The code, the handle and the sessions of the response to a command with this code, and the parameters as they

@@ -1,6 +1,6 @@
 //! The sessions of a response, and the size that stands before them.
 
-ghost use Rattle.std.specs.Prelude.{◌≡◌, ◌≤◌, ◌<◌, ◌+◌, ◌++◌, IfOk, OnOk, drop, length};
+ghost use Rattle.std.specs.Prelude.{◌≡◌, ◌≤◌, ◌<◌, ◌+◌, [], ◌∷◌, ◌++◌, IfOk, OnOk, drop, length};
 ghost use Rattle.tpm_wire.specs.Spelling.{spelling, joined_all};
 ghost use Rattle.tpm_wire.specs.Buffers.{Takes, TakesNumbered};
 ghost use Rattle.tpm_types.specs.Limits.{digest_bytes};
@@ -12,7 +12,7 @@ use std::marker::Model;
 use tpm_commands::take_sized;
 use tpm_types::{AuthReply, DIGEST_BYTES, SessionAttrs};
 use tpm_wire::response_code::{SIZE, of_session};
-use tpm_wire::{Cursor, Refusal, Wire};
+use tpm_wire::{Bounded, Cursor, Refusal, Wire};
 
 /// A session of a response, lent from its bytes: TPMS_AUTH_RESPONSE (Part 2, 10.13.3).
 #[derive(Drop)]
@@ -55,6 +55,15 @@ impl<'a> ReplyRef<'a> {
             attrs: self.attrs,
             hmac: self.hmac,
         }
+    }
+
+    // Makes the other one this session.
+    fn copy_to(&self, other: &mut AuthReply)
+        ensures { other.new ≡ self.now }
+    {
+        copy_part(&mut other.nonce, self.nonce);
+        other.attrs = self.attrs;
+        copy_part(&mut other.hmac, self.hmac);
     }
 
     /// The device's nonce, nonceTPM: at most `DIGEST_BYTES`.
@@ -114,45 +123,11 @@ pub(crate) fn take_session<'a>(cursor: &mut Cursor<'a>) -> Result<ReplyRef<'a>, 
     Ok(ReplyRef { nonce, attrs, hmac })
 }
 
-// The sessions after the first, to the end of the response: at most two.
+// Takes the sessions behind the first, which is there, to the end of the response: at most two.
 #[tactic(auto, unfolding(crate::specs::Responses::further_sessions))]
-fn take_further_sessions<'a>(cursor: &mut Cursor<'a>) -> Result<ArrayVec<ReplyRef<'a>, 3>, Refusal>
-    ensures reads { TakesNumbered (λ v. v.items) further_sessions cursor.old cursor.new result }
-    ensures spelled { IfOk result
-        (λ v. cursor.old.here.rest ≡ joined_all auth_response v.items ++ cursor.new.here.rest) }
-    ensures few { IfOk result (λ v. length v.items ≤ 2) }
-{
-    let mut auths = ArrayVec::new();
-    while cursor.left() > 0 && auths.len() < 2 {
-        cursor.number(of_session(2 + auths.len() as u32));
-        let session = take_session(cursor)?;
-        auths.push(session);
-    }
-    Ok(auths)
-}
-
-/// The sessions of a response, of which there is one at least.
-#[tactic(auto, unfolding(crate::specs::Responses::reply_sessions))]
-pub(crate) fn take_sessions<'a>(
+fn take_further_sessions<'a>(
     cursor: &mut Cursor<'a>,
-) -> Result<ArrayVec<ReplyRef<'a>, 3>, Refusal>
-    ensures reads { TakesNumbered (λ v. v.items) reply_sessions cursor.old cursor.new result }
-    ensures spelled { IfOk result
-        (λ v. cursor.old.here.rest ≡ spelling reply_sessions v.items ++ cursor.new.here.rest) }
-    ensures some { IfOk result (λ v. 0 < length v.items) }
-{
-    cursor.number(of_session(1));
-    let first = take_session(cursor)?;
-    let mut auths = take_further_sessions(cursor)?;
-    auths.insert(0, first);
-    Ok(auths)
-}
-
-// Reads the sessions behind the first, which is there, to the end of the response: at most two.
-#[tactic(auto, unfolding(crate::specs::Responses::further_sessions))]
-fn read_further_sessions(
-    cursor: &mut Cursor<'_>,
-    auths: &mut ArrayVec<AuthReply, 3>,
+    auths: &mut ArrayVec<ReplyRef<'a>, 3>,
 ) -> Result<(), Refusal>
     requires { length auths.old.items ≡ 1 }
     ensures reads { TakesNumbered (λ _. drop 1 auths.new.items) further_sessions
@@ -163,16 +138,65 @@ fn read_further_sessions(
     ensures first { OnOk result (auths.new.items ≡ auths.old.items ++ drop 1 auths.new.items) }
 {
     while cursor.left() > 0 && auths.len() < 3 {
-        let last = auths.len();
-        cursor.number(of_session(1 + last as u32));
-        auths.push(AuthReply::default());
-        auths.as_mut_slice()[last].read(cursor)?;
+        cursor.number(of_session(1 + auths.len() as u32));
+        let session = take_session(cursor)?;
+        auths.push(session);
     }
     Ok(())
 }
 
-/// Reads the sessions of a response in the place of others: one at least.
+/// Takes the sessions of a response: one at least. They are put where they stay, since what is answered is copied.
 #[tactic(auto, unfolding(crate::specs::Responses::reply_sessions))]
+pub(crate) fn take_sessions<'a>(
+    cursor: &mut Cursor<'a>,
+    auths: &mut ArrayVec<ReplyRef<'a>, 3>,
+) -> Result<(), Refusal>
+    requires { auths.old.items ≡ [] }
+    ensures reads { TakesNumbered (λ _. auths.new.items) reply_sessions
+        cursor.old cursor.new result }
+    ensures spelled { OnOk result
+        (cursor.old.here.rest ≡ spelling reply_sessions auths.new.items ++ cursor.new.here.rest) }
+    ensures some { OnOk result (0 < length auths.new.items) }
+{
+    cursor.number(of_session(1));
+    let first = take_session(cursor)?;
+    auths.push(first);
+    take_further_sessions(cursor, auths)?;
+    Ok(())
+}
+
+/// Makes a nonce or an HMAC these bytes. It is out of line, since it is called four times.
+#[inline(never)]
+pub(crate) fn copy_part(part: &mut Bounded<DIGEST_BYTES>, bytes: &[u8])
+    requires { length bytes.now ≤ digest_bytes }
+    ensures { part.new ≡ bytes.now }
+{
+    part.set(bytes);
+}
+
+// Adds a copy of the session. It is out of line, where it is made in its place.
+#[inline(never)]
+fn push_copy(auths: &mut ArrayVec<AuthReply, 3>, session: &ReplyRef<'_>)
+    requires { length auths.old.items < 3 }
+    ensures { auths.new.items ≡ auths.old.items ++ session.now ∷ [] }
+{
+    let last = auths.len();
+    auths.push(AuthReply::default());
+    session.copy_to(&mut auths.as_mut_slice()[last]);
+}
+
+// Puts copies of these sessions in the place of others.
+fn copy_all(sessions: &[ReplyRef<'_>], auths: &mut ArrayVec<AuthReply, 3>)
+    requires { length sessions.now ≤ 3 }
+    ensures { auths.new.items ≡ sessions.now }
+{
+    auths.clear();
+    for session in sessions {
+        push_copy(auths, session);
+    }
+}
+
+/// Reads the sessions of a response in the place of others: one at least.
 pub(crate) fn read_sessions(
     cursor: &mut Cursor<'_>,
     auths: &mut ArrayVec<AuthReply, 3>,
@@ -183,10 +207,8 @@ pub(crate) fn read_sessions(
         (cursor.old.here.rest ≡ spelling reply_sessions auths.new.items ++ cursor.new.here.rest) }
     ensures some { OnOk result (0 < length auths.new.items) }
 {
-    auths.clear();
-    cursor.number(of_session(1));
-    auths.push(AuthReply::default());
-    auths.as_mut_slice()[0].read(cursor)?;
-    read_further_sessions(cursor, auths)?;
+    let mut lent = ArrayVec::new();
+    take_sessions(cursor, &mut lent)?;
+    copy_all(lent.as_slice(), auths);
     Ok(())
 }
