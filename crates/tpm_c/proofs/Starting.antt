@@ -80,7 +80,8 @@ pub request_is : (bytes : List ℕ) (x : Cut) (given : List ℕ) (q : StartAuth)
     → Some q ≡ request_in (read_all command bytes)
 request_is bytes x given q has same_code same_params good bound =
     ap (λ (b : BindHandle). some (record { bind = b; params = q.params })) bound
-    ∙ sym (ap request_in (is_command bytes x (params.StartAuthSession q.params) has (of_cut x given (Ok (params.StartAuthSession q.params)) same_code same_params good)))
+    ∙ sym (ap request_in (is_command bytes x (params.StartAuthSession q.params) has
+    (of_cut x given (Ok (params.StartAuthSession q.params)) same_code same_params good)))
   where
     some : StartAuth → Option StartAuth
     some y = Some y

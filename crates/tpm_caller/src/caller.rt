@@ -135,7 +135,10 @@ impl Caller {
         }
         Some(Caller {
             handle: reply.session,
-            key: SessionKey::new(request.params.auth_hash, key_of_start(request, reply, bind_auth)),
+            key: SessionKey::new(
+                request.params.auth_hash,
+                key_of_start(request, reply, bind_auth),
+            ),
             nonce: reply.nonce_tpm.duplicate(),
         })
     }

@@ -15,11 +15,7 @@ use tpm_wire::response_code::HANDLE;
 impl Device {
     // TPM2_NV_DefineSpace (Part 3, 31.3).
     #[inline(never)]
-    pub(crate) fn define(
-        &mut self,
-        asked: &NvDefineSpace,
-        body: &mut ReplyBody,
-    ) -> Result<(), u32>
+    pub(crate) fn define(&mut self, asked: &NvDefineSpace, body: &mut ReplyBody) -> Result<(), u32>
         ensures answer { (n : List ℕ) →
             acted body.new result ≡ action (holds self.old) (bodies.NvDefineSpace asked.now) n }
         ensures stands { (n : List ℕ) →

@@ -14,11 +14,7 @@ use tpm_types::{OrDigests, PolicyHandle};
 impl Device {
     // TPM2_PolicyPCR (Part 3, 23.7).
     #[inline(never)]
-    pub(crate) fn policy_pcr(
-        &mut self,
-        session: PolicyHandle,
-        asked: &PolicyPcr,
-    ) -> Result<(), u32>
+    pub(crate) fn policy_pcr(&mut self, session: PolicyHandle, asked: &PolicyPcr) -> Result<(), u32>
         ensures answer { (n : List ℕ) →
             acted replies.PolicyPcr result ≡
             action (holds self.old) (bodies.PolicyPcr session asked.now) n }

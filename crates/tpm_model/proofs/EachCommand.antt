@@ -173,7 +173,8 @@ read_checked there by i size offset = next_too (defined_counter there) _ (looked
 
 session_started : (sessions : List (Option Session)) (s : StartAuth) (n : List ℕ) → Gives (bodies.StartAuthSession s) (start_session sessions s n)
 session_started sessions s n =
-    behind (bodies.StartAuthSession s) (refuse (nat_lt (length s.params.nonce_caller) 16 || nat_lt (digest_len s.params.auth_hash) (length s.params.nonce_caller)) 0x1D5) _
+    behind (bodies.StartAuthSession s)
+    (refuse (nat_lt (length s.params.nonce_caller) 16 || nat_lt (digest_len s.params.auth_hash) (length s.params.nonce_caller)) 0x1D5) _
     (tested _ _ (omega arith, omega arith)) (λ _.
     behind (bodies.StartAuthSession s) (ok_or (free_slot sessions) 0x903) _ (looked_up (free_slot sessions) 0x903 (omega arith, omega arith))
     (λ k. answers refl))

@@ -96,7 +96,8 @@ was_checked there count auth public u e =
     }
 
 fair_defined : (nv : NvMemory) (auth : List ℕ) (public : NvPublic) → IsFair nv
-    → Checked (counter_in nv.counters public.index) (length nv.counters) auth public → IsFair (nv_by (bodies.NvDefineSpace (record { auth = auth; public = public })) nv)
+    → Checked (counter_in nv.counters public.index) (length nv.counters) auth public
+    → IsFair (nv_by (bodies.NvDefineSpace (record { auth = auth; public = public })) nv)
 fair_defined nv auth public f k = record {
   few = omega (arith, length-append nv.counters (defined auth public ∷ []), k.room);
   counters = checked_defined nv.greatest nv.counters (defined auth public) f.counters k.new refl;

@@ -129,7 +129,9 @@ start_by : (o : Origin) (h : History) (k : ℕ) (body : CommandBody) (n : List �
     → action (present o h) body n ≡ Ok reply → begun k body reply ≡ Some q → HasLength q
 start_by o h k (bodies.StartAuthSession s) n reply q e b =
     let f =
-    bind_ok (refuse (nat_lt (length s.params.nonce_caller) 16 || nat_lt (digest_len s.params.auth_hash) (length s.params.nonce_caller)) (rc_size + of_parameter 1)) _ reply e in
+    bind_ok
+    (refuse (nat_lt (length s.params.nonce_caller) 16 || nat_lt (digest_len s.params.auth_hash) (length s.params.nonce_caller)) (rc_size + of_parameter 1))
+    _ reply e in
     let g = bounds (length s.params.nonce_caller) (digest_len s.params.auth_hash) (rc_size + of_parameter 1) f.1 in
     subst HasLength (begun_same k s q reply b) (g.0, omega (arith, g.1, digest_most s.params.auth_hash))
 start_by o h k _ n reply q e b = absurd (let z : ⊥ = cc in z)

@@ -73,7 +73,8 @@ answered_start : (sessions : List (Option Session)) (q : StartAuth) (n : List �
     → Answered q n r
 answered_start sessions q n r e =
     let a =
-    bind_ok (refuse (nat_lt (length q.params.nonce_caller) 16 || nat_lt (digest_len q.params.auth_hash) (length q.params.nonce_caller)) (rc_size + of_parameter 1)) _
+    bind_ok
+    (refuse (nat_lt (length q.params.nonce_caller) 16 || nat_lt (digest_len q.params.auth_hash) (length q.params.nonce_caller)) (rc_size + of_parameter 1)) _
     (start_reply r) e in
     let b = bind_ok (ok_or (free_slot sessions) rc_session_memory) _ (start_reply r) a.2 in
     let both = bounds (length q.params.nonce_caller) (digest_len q.params.auth_hash) (rc_size + of_parameter 1) a.1 in
@@ -115,7 +116,12 @@ starts o h bytes n d q r auth e body reply whole same =
     )
     refl in
     let c : CallerSession =
-    record { handle = r.session; hash = q.params.auth_hash; key = session_key q.params.auth_hash (bound_to q.bind auth) r.nonce_tpm q.params.nonce_caller; nonce = r.nonce_tpm } in
+    record {
+      handle = r.session;
+      hash = q.params.auth_hash;
+      key = session_key q.params.auth_hash (bound_to q.bind auth) r.nonce_tpm q.params.nonce_caller;
+      nonce = r.nonce_tpm;
+    } in
     let by : begun k d.command.body d.reply.body ≡ Some q =
     ap (λ b. begun k b d.reply.body) body ∙ ap (begun k (bodies.StartAuthSession q)) reply
     ∙ ap (λ (b : Bool). if b then some q else None) (let it : (slot_of r.session == slot_of r.session) ≡ true = grind (arith, nat_tests) in it) in

@@ -40,10 +40,12 @@ check_startup State = Err (rc_value + of_parameter 1)
 -- A nonce has 16 bytes at least, and no more than a digest (Part 3, 11.1).
 abbrev pub start_session : List (Option Session) → StartAuth → List ℕ → Result ReplyBody ℕ
 start_session sessions s nonce = do
-  _ ← refuse (nat_lt (length s.params.nonce_caller) 16 || nat_lt (digest_len s.params.auth_hash) (length s.params.nonce_caller))
+  _ ← refuse (nat_lt (length s.params.nonce_caller) 16
+      || nat_lt (digest_len s.params.auth_hash) (length s.params.nonce_caller))
       (rc_size + of_parameter 1)
   k ← ok_or (free_slot sessions) rc_session_memory
-  Ok (replies.StartAuthSession (record { session = handle_for s.params.session_type k; nonce_tpm = nonce_from s nonce }))
+  Ok (replies.StartAuthSession
+      (record { session = handle_for s.params.session_type k; nonce_tpm = nonce_from s nonce }))
 
 abbrev pub check_flush : Option Session → Result (Unit {0}) ℕ
 check_flush s = refuse (is_none s) (rc_handle + of_parameter 1)

@@ -190,7 +190,8 @@ pub asserts_registers : (o : Origin) (h : History) (c : Command) (r : Reply) (no
     (now : Registers) (held : Session) (old new : List (Option Session)) →
     new ≡ with_slot (slot_of handle) (option_map (asserting (pcr_assertion now held.session_type held.hash pcr_digest selections))) old →
     loaded old handle ≡ Some held →
-    c.body ≡ bodies.PolicyPcr handle (record { pcr_digest = pcr_digest; selections = selections }) → c.auths.items ≡ [] → now ≡ registers_after (changes h) → old ≡ sessions_at o h →
+    c.body ≡ bodies.PolicyPcr handle (record { pcr_digest = pcr_digest; selections = selections }) →
+    c.auths.items ≡ [] → now ≡ registers_after (changes h) → old ≡ sessions_at o h →
     new ≡ sessions_at o (Accepted c r nonce ∷ h)
 asserts_registers o h c r nonce handle pcr_digest selections now held old new is found same auths are at =
     let a = pcr_assertion now held.session_type held.hash pcr_digest selections in
@@ -204,7 +205,9 @@ asserts_registers o h c r nonce handle pcr_digest selections now held old new is
           after_policy o h c r nonce k (bodies.PolicyPcr handle (record { pcr_digest = pcr_digest; selections = selections }))
           (pcr_asserted now (start_of k h) pcr_digest selections (assertions_of k h)) same auths refl refl (rw (t, ← are) refl)
           ∙ pcr_asserted_more o (last_nonce k h) (lives k h) (start_of k h) (assertions_of k h) now pcr_digest selections held here
-      | false ↦ λ t. after_policy o h c r nonce k (bodies.PolicyPcr handle (record { pcr_digest = pcr_digest; selections = selections })) (assertions_of k h) same auths refl refl (rw t refl)
+      | false ↦ λ t.
+          after_policy o h c r nonce k (bodies.PolicyPcr handle (record { pcr_digest = pcr_digest; selections = selections }))
+          (assertions_of k h) same auths refl refl (rw t refl)
     ] refl) at
 
 -- ---- the policy digest

@@ -11,9 +11,7 @@ ghost use Rattle.tpm_show.specs.FieldText.{value_told};
 use crate::field::Field;
 use crate::field_text::tell_value;
 use crate::teller::Teller;
-use tpm_commands::{
-    CommandBody, Event, NvDefineSpace, NvRead, PolicyPcr, ReplyBody, StartParams,
-};
+use tpm_commands::{CommandBody, Event, NvDefineSpace, NvRead, PolicyPcr, ReplyBody, StartParams};
 use tpm_output::text::Pushed;
 use tpm_types::EncryptedSalt;
 use tpm_wire::{Buffer, Wire, put_bytes};
