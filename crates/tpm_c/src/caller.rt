@@ -27,7 +27,7 @@ use tpm_commands::{
     CommandTable, ReplyBody, Response, StartAuth, StartParams, StartReply, bind_in,
     decode_start_into, second_handle,
 };
-use tpm_types::{CommandCode, DIGEST_BYTES, NAME_BYTES, Name};
+use tpm_types::{CommandCode, DIGEST_BYTES, NAME_BYTES, Name, Nonce};
 
 /// Nothing is waited for.
 const NOT_WAITING: u32 = 5;
