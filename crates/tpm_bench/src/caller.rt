@@ -5,7 +5,7 @@ ghost use Rattle.std.specs.Prelude.{◌≤◌};
 use arrayvec::ArrayVec;
 use tpm_buffer::{decode_response, encode_command};
 use tpm_caller::{Caller, CallerFault, Pending};
-use tpm_commands::{Command, CommandBody, ReplyBody, Response, StartAuth};
+use tpm_commands::{Command, CommandBody, ReplyBody, Response, StartAuth, StartParams};
 use tpm_device::{Device, ResponseBuffer};
 use tpm_types::{
     Alg, AuthValue, BindHandle, CommandCode, DigestValues, HashedDigest, Nonce, PcrIndex,
@@ -34,10 +34,12 @@ fn started() -> Device {
 fn request() -> StartAuth {
     StartAuth {
         bind: BindHandle::Owner,
-        nonce_caller: Nonce::new(&[0; 32]).unwrap(),
-        session_type: SessionType::Hmac,
-        symmetric: SymDef::Null,
-        auth_hash: Alg::Sha256,
+        params: StartParams {
+            nonce_caller: Nonce::new(&[0; 32]).unwrap(),
+            session_type: SessionType::Hmac,
+            symmetric: SymDef::Null,
+            auth_hash: Alg::Sha256,
+        },
     }
 }
 

@@ -3,7 +3,7 @@
 ghost use Rattle.std.specs.Prelude.{◌<◌, ◌≤◌, length};
 
 use tpm_buffer::{Areas, areas};
-use tpm_commands::StartAuth;
+use tpm_commands::{StartAuth, StartParams};
 use tpm_session::{Claim, Entity, Sessions};
 use tpm_types::{Alg, BindHandle, Name, Nonce, SessionType, SymDef, name_of_handle};
 
@@ -37,10 +37,12 @@ pub extern "C" fn tpm_bench_authorize(bytes: &[u8], times: u32) -> u32
 fn started() -> Sessions {
     let start = StartAuth {
         bind: BindHandle::Null,
-        nonce_caller: Nonce::new(&[0; 32]).unwrap_or_default(),
-        session_type: SessionType::Hmac,
-        symmetric: SymDef::Null,
-        auth_hash: Alg::Sha256,
+        params: StartParams {
+            nonce_caller: Nonce::new(&[0; 32]).unwrap_or_default(),
+            session_type: SessionType::Hmac,
+            symmetric: SymDef::Null,
+            auth_hash: Alg::Sha256,
+        },
     };
     let mut sessions = Sessions::new();
     let _started = sessions.start(&start, &[], &[0; 64]);

@@ -7,7 +7,7 @@ use Rattle.tpm_wire.specs.Spelling.{spelling}
 use Rattle.tpm_types.specs.declared.tpms.Auth.{Auth}
 use Rattle.tpm_types.specs.declared.command_code.CommandCode.{CommandCode}
 use Rattle.tpm_commands.specs.declared.command.Header.{Header}
-use Rattle.tpm_commands.specs.declared.command_parameters.Params.{Params}
+use Rattle.tpm_commands.specs.declared.command.Params.{Params}
 use Rattle.tpm_types.specs.CommandCodes.{command_code}
 use Rattle.tpm_commands.specs.Handles.{AreAdmitted, handle_kinds, handles}
 use Rattle.tpm_commands.specs.Parameters.{params_code, parameters}

@@ -14,7 +14,7 @@ use Rattle.tpm_wire.proofs.Agreement.{ok_is, err_is, ends_same}
 use Rattle.tpm_wire.proofs.Cuts.{cut_read, parted}
 use Rattle.tpm_wire.proofs.Elsewhere.{read_later, later}
 use Rattle.tpm_commands.specs.declared.command.Command.{Command}
-use Rattle.tpm_commands.specs.declared.command_parameters.Params.{Params}
+use Rattle.tpm_commands.specs.declared.command.Params.{Params}
 use Rattle.tpm_commands.specs.Handles.{handles}
 use Rattle.tpm_commands.specs.Parameters.{parameters}
 use Rattle.tpm_types.proofs.Short.{ok, err}

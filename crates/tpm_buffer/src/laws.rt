@@ -8,7 +8,7 @@ ghost use Rattle.tpm_wire.specs.Path.{ExactlyOne, Fault, Spells};
 ghost use Rattle.tpm_types.specs.declared.command_code.CommandCode.{CommandCode};
 ghost use Rattle.tpm_commands.specs.declared.command.Command.{Command};
 ghost use Rattle.tpm_commands.specs.declared.response.Response.{Response};
-ghost use Rattle.tpm_commands.specs.declared.command_parameters.Params.{Params};
+ghost use Rattle.tpm_commands.specs.declared.command.Params.{Params};
 ghost use Rattle.tpm_commands.specs.Parameters.{parameters};
 ghost use Rattle.tpm_buffer.specs.Commands.{body_from, with_auths, header, front, Checked, before_params, command};
 ghost use Rattle.tpm_buffer.specs.Responses.{response, ReplyCut, reply_cut};

@@ -17,7 +17,7 @@ use Rattle.tpm_wire.proofs.Longer.{TakesAtMost}
 use Rattle.tpm_wire.proofs.Whole.{spells_read, read_spells, fault_read, read_fault}
 use Rattle.tpm_types.specs.declared.command_code.CommandCode.{CommandCode}
 use Rattle.tpm_commands.specs.declared.command.Command.{Command}
-use Rattle.tpm_commands.specs.declared.command_parameters.Params.{Params}
+use Rattle.tpm_commands.specs.declared.command.Params.{Params}
 use Rattle.tpm_commands.specs.Handles.{handles}
 use Rattle.tpm_commands.specs.Parameters.{parameters, placed}
 use Rattle.tpm_commands.proofs.EachCommand.{of_parameters}

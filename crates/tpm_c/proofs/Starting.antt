@@ -11,9 +11,9 @@ use Rattle.tpm_types.specs.declared.handle_sets.BindHandle.{BindHandle}
 use Rattle.tpm_types.specs.declared.command_code.CommandCode.{CommandCode}
 use Rattle.tpm_commands.specs.declared.command.Command.{Command}
 use Rattle.tpm_commands.specs.declared.command.StartAuth.{StartAuth}
-use Rattle.tpm_commands.specs.declared.command_parameters.Params.{Params}
+use Rattle.tpm_commands.specs.declared.command.Params.{Params}
 use Rattle.tpm_types.specs.declared.command_code.CommandCode.TheVariants as codes
-use Rattle.tpm_commands.specs.declared.command_parameters.Params.TheVariants as params
+use Rattle.tpm_commands.specs.declared.command.Params.TheVariants as params
 use Rattle.tpm_commands.specs.Handles.{second}
 use Rattle.tpm_commands.specs.Parameters.{parameters}
 use Rattle.tpm_buffer.specs.Commands.{before_params, body_from, bind_in, code_for, command, with_auths}
@@ -75,24 +75,13 @@ pub no_params : (bytes : List ℕ) (x : Cut) (given : List ℕ) (e : Refusal) �
 no_params bytes x given e has same_code same_params bad =
     faulty bytes x e has (of_cut x given (Err e) same_code same_params bad)
 
-abbrev params_in : StartAuth → Params
-params_in q = params.StartAuthSession q.nonce_caller q.session_type q.symmetric q.auth_hash
-
-abbrev bound_to : StartAuth → BindHandle → StartAuth
-bound_to q b = record {
-  bind = b;
-  nonce_caller = q.nonce_caller;
-  session_type = q.session_type;
-  symmetric = q.symmetric;
-  auth_hash = q.auth_hash;
-}
-
 pub request_is : (bytes : List ℕ) (x : Cut) (given : List ℕ) (q : StartAuth) → HasCut bytes x → x.header.code ≡ codes.StartAuthSession
-    → given ≡ x.params → read_all (parameters codes.StartAuthSession) given ≡ Ok (params_in q) → q.bind ≡ bind_in (second x.handles)
+    → given ≡ x.params → read_all (parameters codes.StartAuthSession) given ≡ Ok (params.StartAuthSession q.params) → q.bind ≡ bind_in (second x.handles)
     → Some q ≡ request_in (read_all command bytes)
 request_is bytes x given q has same_code same_params good bound =
-    ap (λ (b : BindHandle). some (bound_to q b)) bound
-    ∙ sym (ap request_in (is_command bytes x (params_in q) has (of_cut x given (Ok (params_in q)) same_code same_params good)))
+    ap (λ (b : BindHandle). some (record { bind = b; params = q.params })) bound
+    ∙ sym (ap request_in (is_command bytes x (params.StartAuthSession q.params) has
+    (of_cut x given (Ok (params.StartAuthSession q.params)) same_code same_params good)))
   where
     some : StartAuth → Option StartAuth
     some y = Some y

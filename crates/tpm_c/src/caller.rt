@@ -24,10 +24,10 @@ use arrayvec::ArrayVec;
 use tpm_buffer::{areas, decode_response};
 use tpm_caller::{Caller, CallerFault, Pending, Plain};
 use tpm_commands::{
-    CommandTable, ReplyBody, Response, StartAuth, StartReply, bind_in, decode_start_into,
-    second_handle,
+    CommandTable, ReplyBody, Response, StartAuth, StartParams, StartReply, bind_in,
+    decode_start_into, second_handle,
 };
-use tpm_types::{Alg, CommandCode, DIGEST_BYTES, NAME_BYTES, Name, Nonce, SessionType, SymDef};
+use tpm_types::{CommandCode, DIGEST_BYTES, NAME_BYTES, Name, Nonce};
 
 /// Nothing is waited for.
 const NOT_WAITING: u32 = 5;
@@ -72,12 +72,9 @@ fn request_in(command: &[u8]) -> Option<StartAuth>
     }
     let mut request = StartAuth {
         bind: bind_in(second_handle(areas.handles())),
-        nonce_caller: Nonce::default(),
-        session_type: SessionType::Hmac,
-        symmetric: SymDef::Null,
-        auth_hash: Alg::default(),
+        params: StartParams::any(),
     };
-    match decode_start_into(areas.params(), &mut request) {
+    match decode_start_into(areas.params(), &mut request.params) {
         Ok(()) => Some(request),
         Err(_) => None,
     }

@@ -3,7 +3,7 @@
 ghost use Rattle.std.specs.Prelude.{◌≡◌, ◌≤◌, ◌+◌, ◌∷◌, [], length, IfOk, IfErr};
 ghost use Rattle.tpm_wire.specs.Path.{Spells, Fault};
 ghost use Rattle.tpm_commands.specs.declared.command.Command.{Command};
-ghost use Rattle.tpm_commands.specs.declared.command_parameters.Params.{Params as ParamsOf};
+ghost use Rattle.tpm_commands.specs.declared.command.Params.{Params as ParamsOf};
 ghost use Rattle.tpm_commands.specs.Handles.{first, second};
 ghost use Rattle.tpm_commands.specs.Parameters.{parameters};
 ghost use Rattle.tpm_buffer.specs.Commands.{command};

@@ -16,7 +16,7 @@ use Rattle.tpm_types.specs.declared.command_code.CommandCode.{CommandCode}
 use Rattle.tpm_commands.specs.declared.command_handles.HandleKind.{HandleKind}
 use Rattle.tpm_commands.specs.declared.command.Command.{Command}
 use Rattle.tpm_commands.specs.declared.command.CommandBody.{CommandBody}
-use Rattle.tpm_commands.specs.declared.command_parameters.Params.{Params}
+use Rattle.tpm_commands.specs.declared.command.Params.{Params}
 use Rattle.tpm_commands.specs.Handles.{admits, handles, handles_from, handle_kinds, needs_authorization, AreAdmitted}
 use Rattle.tpm_commands.specs.Parameters.{params_code, parameters}
 use Rattle.tpm_commands.proofs.EachCommand.{handles_again, params_again}

@@ -60,15 +60,15 @@ impl Model for Caller {
 // The key of a session that is started so.
 fn key_of_start(request: &StartAuth, reply: &StartReply, bind_auth: &[u8]) -> Digest
     ensures { result
-        ≡ session_key_of request.now.auth_hash (bound_to request.now.bind bind_auth.now)
-        reply.now.nonce_tpm request.now.nonce_caller }
+        ≡ session_key_of request.now.params.auth_hash (bound_to request.now.bind bind_auth.now)
+        reply.now.nonce_tpm request.now.params.nonce_caller }
 {
     match request.bind {
         BindHandle::Owner => session_key(
-            request.auth_hash,
+            request.params.auth_hash,
             bind_auth,
             reply.nonce_tpm.as_slice(),
-            request.nonce_caller.as_slice(),
+            request.params.nonce_caller.as_slice(),
         ),
         BindHandle::Null => Digest::default(),
     }
@@ -126,16 +126,19 @@ impl Caller {
     pub fn start(request: &StartAuth, reply: &StartReply, bind_auth: &[u8]) -> Option<Caller>
         ensures { result ≡ started_with request.now reply.now bind_auth.now }
     {
-        let len = request.nonce_caller.as_slice().len();
+        let len = request.params.nonce_caller.as_slice().len();
         if reply.nonce_tpm.as_slice().len() != len
             || len < LEAST_NONCE
-            || len > request.auth_hash.digest_len()
+            || len > request.params.auth_hash.digest_len()
         {
             return None;
         }
         Some(Caller {
             handle: reply.session,
-            key: SessionKey::new(request.auth_hash, key_of_start(request, reply, bind_auth)),
+            key: SessionKey::new(
+                request.params.auth_hash,
+                key_of_start(request, reply, bind_auth),
+            ),
             nonce: reply.nonce_tpm.duplicate(),
         })
     }

@@ -28,7 +28,7 @@ use Rattle.tpm_types.specs.Tpms.{selection, nv_public_area, nv_public}
 use Rattle.tpm_types.specs.Tpmt.{digest_value}
 use Rattle.tpm_types.specs.declared.command_code.CommandCode.{CommandCode}
 use Rattle.tpm_commands.specs.declared.command_handles.HandleKind.{HandleKind}
-use Rattle.tpm_commands.specs.declared.command_parameters.Params.{Params}
+use Rattle.tpm_commands.specs.declared.command.Params.{Params}
 use Rattle.tpm_commands.specs.declared.response.ReplyBody.{ReplyBody}
 use Rattle.tpm_commands.specs.Events.{event_bytes}
 use Rattle.tpm_commands.specs.Handles.{admits, AreAdmitted, handle_kinds, first, second}
@@ -43,7 +43,7 @@ use Rattle.tpm_commands.specs.Replies.{start_auth_session_reply, pcr_read_reply,
 use Rattle.tpm_types.proofs.Short.{ok, next, only, of_hash, of_selection, of_digest_value, of_sym_def}
 use Rattle.tpm_types.specs.declared.command_code.CommandCode.TheVariants as codes
 use Rattle.tpm_commands.specs.declared.command_handles.HandleKind.TheVariants as kinds
-use Rattle.tpm_commands.specs.declared.command_parameters.Params.TheVariants as params
+use Rattle.tpm_commands.specs.declared.command.Params.TheVariants as params
 
 -- ---- a number that is of its kind is that of the handle made from it
 
@@ -102,15 +102,15 @@ index hs t = two kinds.OwnerOrIndex kinds.Index _ _ hs t (nv_auth_again (first h
 
 pub handles_again : (p : Params) (hs : List ℕ) → AreAdmitted (handle_kinds (params_code p)) hs → handles_of (body_from hs p) ≡ hs
 handles_again params.NvUndefineSpace hs t = two kinds.Owner kinds.Index _ _ hs t (owner_again (first hs)) (index_again (second hs))
-handles_again (params.NvDefineSpace auth public) hs t = one kinds.Owner _ hs t (owner_again (first hs))
+handles_again (params.NvDefineSpace p) hs t = one kinds.Owner _ hs t (owner_again (first hs))
 handles_again params.NvIncrement hs t = index hs t
 handles_again (params.PcrEvent event) hs t = register hs t
 handles_again params.PcrReset hs t = one kinds.Pcr _ hs t (register_again (first hs))
 handles_again (params.Startup kind) hs t = sym t
-handles_again (params.NvRead size offset) hs t = index hs t
+handles_again (params.NvRead p) hs t = index hs t
 handles_again (params.FlushContext handle) hs t = sym t
 handles_again params.NvReadPublic hs t = one kinds.Index _ hs t (index_again (first hs))
-handles_again (params.StartAuthSession nonce_caller kind symmetric alg) hs t =
+handles_again (params.StartAuthSession p) hs t =
     two kinds.Null kinds.OwnerOrNull _ _ hs t (null_again (first hs)) (bind_again (second hs))
 handles_again (params.PcrRead selected) hs t = sym t
 handles_again (params.PcrExtend digests) hs t = register hs t

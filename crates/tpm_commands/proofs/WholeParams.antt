@@ -10,7 +10,7 @@ use Rattle.tpm_wire.specs.Buffers.{Place}
 use Rattle.tpm_wire.specs.WholeValues.{ended, left_over}
 use Rattle.tpm_wire.proofs.Alone.{whole_read, whole_refused, whole_is, whole_decodes}
 use Rattle.tpm_types.specs.declared.command_code.CommandCode.{CommandCode}
-use Rattle.tpm_commands.specs.declared.command_parameters.Params.{Params}
+use Rattle.tpm_commands.specs.declared.command.Params.{Params}
 use Rattle.tpm_commands.specs.Parameters.{parameters, placed}
 use Rattle.tpm_commands.proofs.EachCommand.{of_parameters}
 

@@ -3,7 +3,7 @@ use Rattle.std.specs.Prelude.{Result, Ok, Err}
 use Rattle.tpm_wire.specs.declared.refusal.Refusal.{Refusal}
 use Rattle.tpm_wire.specs.Buffers.{Layout}
 use Rattle.tpm_types.specs.declared.command_code.CommandCode.{CommandCode}
-use Rattle.tpm_commands.specs.declared.command_parameters.Params.{Params}
+use Rattle.tpm_commands.specs.declared.command.Params.{Params}
 use Rattle.tpm_commands.specs.Table.{row}
 unfoldable pub use Rattle.tpm_commands.specs.Commands.Startup.{startup}
 unfoldable pub use Rattle.tpm_commands.specs.Commands.Session.{start_auth_session}

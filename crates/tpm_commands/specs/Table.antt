@@ -11,7 +11,7 @@ use Rattle.tpm_types.specs.declared.handle_sets.NvAuthHandle.TheVariants as nv
 use Rattle.tpm_types.specs.declared.handle_sets.BindHandle.TheVariants as binds
 use Rattle.tpm_types.specs.declared.command_code.CommandCode.{CommandCode}
 use Rattle.tpm_commands.specs.declared.command.CommandBody.{CommandBody}
-use Rattle.tpm_commands.specs.declared.command_parameters.Params.{Params}
+use Rattle.tpm_commands.specs.declared.command.Params.{Params}
 use Rattle.tpm_commands.specs.declared.response.ReplyBody.{ReplyBody}
 use Rattle.tpm_commands.specs.Row.{Row, first, second}
 use Rattle.tpm_commands.specs.Commands.Startup.{startup_row}
@@ -24,7 +24,7 @@ use Rattle.tpm_commands.specs.Commands.Nv.{nv_undefine_space_row, nv_define_spac
 use Rattle.tpm_commands.specs.Commands.Nv.{nv_read_public_row}
 use Rattle.tpm_types.specs.declared.command_code.CommandCode.TheVariants as codes
 use Rattle.tpm_commands.specs.declared.command.CommandBody.TheVariants as bodies
-use Rattle.tpm_commands.specs.declared.command_parameters.Params.TheVariants as params
+use Rattle.tpm_commands.specs.declared.command.Params.TheVariants as params
 use Rattle.tpm_commands.specs.declared.response.ReplyBody.TheVariants as replies
 
 abbrev pub row : CommandCode → Row
@@ -50,20 +50,20 @@ row codes.PolicyGetDigest = policy_get_digest_row
 -- the command that has these parameters
 abbrev pub params_code : Params → CommandCode
 params_code params.NvUndefineSpace = codes.NvUndefineSpace
-params_code (params.NvDefineSpace auth public) = codes.NvDefineSpace
+params_code (params.NvDefineSpace p) = codes.NvDefineSpace
 params_code params.NvIncrement = codes.NvIncrement
 params_code (params.PcrEvent event) = codes.PcrEvent
 params_code params.PcrReset = codes.PcrReset
 params_code (params.Startup kind) = codes.Startup
-params_code (params.NvRead size offset) = codes.NvRead
+params_code (params.NvRead p) = codes.NvRead
 params_code (params.FlushContext handle) = codes.FlushContext
 params_code params.NvReadPublic = codes.NvReadPublic
 params_code params.PolicyAuthValue = codes.PolicyAuthValue
 params_code (params.PolicyCommandCode code) = codes.PolicyCommandCode
 params_code (params.PolicyOr digests) = codes.PolicyOr
-params_code (params.StartAuthSession nonce_caller kind symmetric alg) = codes.StartAuthSession
+params_code (params.StartAuthSession p) = codes.StartAuthSession
 params_code (params.PcrRead selected) = codes.PcrRead
-params_code (params.PolicyPcr pcr_digest selected) = codes.PolicyPcr
+params_code (params.PolicyPcr p) = codes.PolicyPcr
 params_code params.PolicyRestart = codes.PolicyRestart
 params_code (params.PcrExtend digests) = codes.PcrExtend
 params_code params.PolicyGetDigest = codes.PolicyGetDigest
@@ -116,28 +116,20 @@ bind_in n = or_else (bind_of n) binds.Null
 
 abbrev pub body_from : List ℕ → Params → CommandBody
 body_from hs params.NvUndefineSpace = bodies.NvUndefineSpace (index_in (second hs))
-body_from hs (params.NvDefineSpace auth public) = bodies.NvDefineSpace auth public
+body_from hs (params.NvDefineSpace p) = bodies.NvDefineSpace p
 body_from hs params.NvIncrement = bodies.NvIncrement (nv_auth_in (first hs)) (index_in (second hs))
 body_from hs (params.PcrEvent event) = bodies.PcrEvent (pcr_or_null_in (first hs)) event
 body_from hs params.PcrReset = bodies.PcrReset (register_in (first hs))
 body_from hs (params.Startup startup_type) = bodies.Startup startup_type
-body_from hs (params.NvRead size offset) = bodies.NvRead (nv_auth_in (first hs)) (index_in (second hs)) size offset
+body_from hs (params.NvRead p) = bodies.NvRead (nv_auth_in (first hs)) (index_in (second hs)) p
 body_from hs (params.FlushContext session) = bodies.FlushContext session
 body_from hs params.NvReadPublic = bodies.NvReadPublic (index_in (first hs))
 body_from hs params.PolicyAuthValue = bodies.PolicyAuthValue (policy_in (first hs))
 body_from hs (params.PolicyCommandCode code) = bodies.PolicyCommandCode (policy_in (first hs)) code
 body_from hs (params.PolicyOr digests) = bodies.PolicyOr (policy_in (first hs)) digests
-body_from hs (params.StartAuthSession nonce session_type symmetric hash) =
-    bodies.StartAuthSession
-    (record {
-      bind = bind_in (second hs);
-      nonce_caller = nonce;
-      session_type = session_type;
-      symmetric = symmetric;
-      auth_hash = hash;
-    })
+body_from hs (params.StartAuthSession p) = bodies.StartAuthSession (record { bind = bind_in (second hs); params = p })
 body_from hs (params.PcrRead selections) = bodies.PcrRead selections
-body_from hs (params.PolicyPcr digest selections) = bodies.PolicyPcr (policy_in (first hs)) digest selections
+body_from hs (params.PolicyPcr p) = bodies.PolicyPcr (policy_in (first hs)) p
 body_from hs params.PolicyRestart = bodies.PolicyRestart (policy_in (first hs))
 body_from hs (params.PcrExtend digests) = bodies.PcrExtend (pcr_or_null_in (first hs)) digests
 body_from hs params.PolicyGetDigest = bodies.PolicyGetDigest (policy_in (first hs))
@@ -146,21 +138,20 @@ body_from hs params.PolicyGetDigest = bodies.PolicyGetDigest (policy_in (first h
 
 abbrev pub params_of : CommandBody → Params
 params_of (bodies.NvUndefineSpace index) = params.NvUndefineSpace
-params_of (bodies.NvDefineSpace auth public) = params.NvDefineSpace auth public
+params_of (bodies.NvDefineSpace p) = params.NvDefineSpace p
 params_of (bodies.NvIncrement by index) = params.NvIncrement
 params_of (bodies.PcrEvent register event) = params.PcrEvent event
 params_of (bodies.PcrReset register) = params.PcrReset
 params_of (bodies.Startup startup_type) = params.Startup startup_type
-params_of (bodies.NvRead by index size offset) = params.NvRead size offset
+params_of (bodies.NvRead by index p) = params.NvRead p
 params_of (bodies.FlushContext session) = params.FlushContext session
 params_of (bodies.NvReadPublic index) = params.NvReadPublic
 params_of (bodies.PolicyAuthValue session) = params.PolicyAuthValue
 params_of (bodies.PolicyCommandCode session code) = params.PolicyCommandCode code
 params_of (bodies.PolicyOr session digests) = params.PolicyOr digests
-params_of (bodies.StartAuthSession start) =
-    params.StartAuthSession start.nonce_caller start.session_type start.symmetric start.auth_hash
+params_of (bodies.StartAuthSession start) = params.StartAuthSession start.params
 params_of (bodies.PcrRead selections) = params.PcrRead selections
-params_of (bodies.PolicyPcr session digest selections) = params.PolicyPcr digest selections
+params_of (bodies.PolicyPcr session p) = params.PolicyPcr p
 params_of (bodies.PolicyRestart session) = params.PolicyRestart
 params_of (bodies.PcrExtend register digests) = params.PcrExtend digests
 params_of (bodies.PolicyGetDigest session) = params.PolicyGetDigest
@@ -170,12 +161,12 @@ code_for body = params_code (params_of body)
 
 abbrev pub handles_of : CommandBody → List ℕ
 handles_of (bodies.NvUndefineSpace index) = rh_owner ∷ index ∷ []
-handles_of (bodies.NvDefineSpace auth public) = rh_owner ∷ []
+handles_of (bodies.NvDefineSpace p) = rh_owner ∷ []
 handles_of (bodies.NvIncrement by index) = nv_auth_number by ∷ index ∷ []
 handles_of (bodies.PcrEvent register event) = pcr_or_null_number register ∷ []
 handles_of (bodies.PcrReset register) = register ∷ []
 handles_of (bodies.Startup startup_type) = []
-handles_of (bodies.NvRead by index size offset) = nv_auth_number by ∷ index ∷ []
+handles_of (bodies.NvRead by index p) = nv_auth_number by ∷ index ∷ []
 handles_of (bodies.FlushContext session) = []
 handles_of (bodies.NvReadPublic index) = index ∷ []
 handles_of (bodies.PolicyAuthValue session) = session ∷ []
@@ -183,7 +174,7 @@ handles_of (bodies.PolicyCommandCode session code) = session ∷ []
 handles_of (bodies.PolicyOr session digests) = session ∷ []
 handles_of (bodies.StartAuthSession start) = rh_null ∷ bind_number start.bind ∷ []
 handles_of (bodies.PcrRead selections) = []
-handles_of (bodies.PolicyPcr session digest selections) = session ∷ []
+handles_of (bodies.PolicyPcr session p) = session ∷ []
 handles_of (bodies.PolicyRestart session) = session ∷ []
 handles_of (bodies.PcrExtend register digests) = pcr_or_null_number register ∷ []
 handles_of (bodies.PolicyGetDigest session) = session ∷ []

@@ -1,11 +1,11 @@
 //! A command as a value.
 
+use crate::commands::{NvDefineSpace, NvRead, PolicyPcr, StartParams};
 use crate::lent::Event;
 use arrayvec::ArrayVec;
 use tpm_types::{
-    Alg, Auth, AuthValue, BindHandle, CommandCode, Digest, DigestValues, Nonce, NvAuthHandle,
-    NvIndex, NvPublic, OrDigests, PcrIndex, PcrOrNull, PolicyHandle, Selections, SessionHandle,
-    SessionType, StartupType, SymDef,
+    Auth, BindHandle, CommandCode, DigestValues, NvAuthHandle, NvIndex, OrDigests, PcrIndex,
+    PcrOrNull, PolicyHandle, Selections, SessionHandle, StartupType,
 };
 
 /// What a command does, with its handles and parameters: the command of that name in Part 3. An event is lent, as
@@ -19,10 +19,7 @@ pub enum CommandBody<'a> {
         index: NvIndex,
     },
     /// TPM2_NV_DefineSpace (Part 3, 31.3).
-    NvDefineSpace {
-        auth: AuthValue,
-        public: NvPublic,
-    },
+    NvDefineSpace(NvDefineSpace),
     /// TPM2_NV_Increment (Part 3, 31.8).
     NvIncrement {
         by: NvAuthHandle,
@@ -43,8 +40,7 @@ pub enum CommandBody<'a> {
     NvRead {
         by: NvAuthHandle,
         index: NvIndex,
-        size: u16,
-        offset: u16,
+        params: NvRead,
     },
     /// TPM2_FlushContext (Part 3, 28.4).
     FlushContext(SessionHandle),
@@ -73,8 +69,7 @@ pub enum CommandBody<'a> {
     /// TPM2_PolicyPCR (Part 3, 23.7).
     PolicyPcr {
         session: PolicyHandle,
-        pcr_digest: Digest,
-        selections: Selections,
+        params: PolicyPcr,
     },
     /// TPM2_PolicyRestart (Part 3, 11.2).
     PolicyRestart {
@@ -91,14 +86,34 @@ pub enum CommandBody<'a> {
     },
 }
 
-/// What a session is started with (Part 3, 11.1): tpmKey is TPM_RH_NULL and the salt is empty.
+/// What a session is started with (Part 3, 11.1): what it is bound to, and the parameters. tpmKey is TPM_RH_NULL.
 #[derive(Drop)]
 pub struct StartAuth {
     pub bind: BindHandle,
-    pub nonce_caller: Nonce,
-    pub session_type: SessionType,
-    pub symmetric: SymDef,
-    pub auth_hash: Alg,
+    pub params: StartParams,
+}
+
+/// A command's parameters, without its handles and sessions. An event is lent from the bytes that they were read from.
+#[derive(Drop)]
+pub enum Params<'a> {
+    NvUndefineSpace,
+    NvDefineSpace(NvDefineSpace),
+    NvIncrement,
+    PcrEvent(Event<'a>),
+    PcrReset,
+    Startup(StartupType),
+    NvRead(NvRead),
+    FlushContext(SessionHandle),
+    NvReadPublic,
+    PolicyAuthValue,
+    PolicyCommandCode(u32),
+    PolicyOr(OrDigests),
+    StartAuthSession(StartParams),
+    PcrRead(Selections),
+    PolicyPcr(PolicyPcr),
+    PolicyRestart,
+    PcrExtend(DigestValues),
+    PolicyGetDigest,
 }
 
 /// A command, and the sessions that authorize it: none under tag 0x8001, one to three under 0x8002.

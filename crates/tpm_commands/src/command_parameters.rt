@@ -6,54 +6,13 @@ ghost use Rattle.tpm_wire.specs.Path.{Decodes};
 ghost use Rattle.tpm_wire.specs.Reading.{read_all};
 ghost use Rattle.tpm_wire.specs.Buffers.{TakesNumbered};
 ghost use Rattle.tpm_types.specs.declared.command_code.CommandCode.TheVariants as codes;
-ghost use Rattle.tpm_commands.specs.declared.command_parameters.Params.TheVariants as params;
+ghost use Rattle.tpm_commands.specs.declared.command.Params.TheVariants as params;
 ghost use Rattle.tpm_commands.specs.Parameters.{parameters, params_code, placed};
 
-use crate::command::StartAuth;
-use crate::commands::read_start_auth_session;
-use crate::lent::Event;
-use tpm_types::{
-    Alg, AuthValue, CommandCode, Digest, DigestValues, Nonce, NvPublic, OrDigests, Selections,
-    SessionHandle, SessionType, StartupType, SymDef,
-};
+use crate::command::Params;
+use crate::commands::StartParams;
+use tpm_types::CommandCode;
 use tpm_wire::{Cursor, Refusal};
-
-/// A command's parameters, without its handles and sessions. An event is lent from the bytes that they were read from.
-#[derive(Drop)]
-pub enum Params<'a> {
-    NvUndefineSpace,
-    NvDefineSpace {
-        auth: AuthValue,
-        public: NvPublic,
-    },
-    NvIncrement,
-    PcrEvent(Event<'a>),
-    PcrReset,
-    Startup(StartupType),
-    NvRead {
-        size: u16,
-        offset: u16,
-    },
-    FlushContext(SessionHandle),
-    NvReadPublic,
-    PolicyAuthValue,
-    PolicyCommandCode(u32),
-    PolicyOr(OrDigests),
-    StartAuthSession {
-        nonce_caller: Nonce,
-        session_type: SessionType,
-        symmetric: SymDef,
-        auth_hash: Alg,
-    },
-    PcrRead(Selections),
-    PolicyPcr {
-        pcr_digest: Digest,
-        selections: Selections,
-    },
-    PolicyRestart,
-    PcrExtend(DigestValues),
-    PolicyGetDigest,
-}
 
 /// Reads the parameters of a command with this code.
 #[inline(never)]
@@ -105,22 +64,13 @@ pub fn decode_params_into<'a>(
     cursor.end_of_whole(bytes)
 }
 
-/// As `decode_params_into` of TPM2_StartAuthSession (Part 3, 11.1), in the place of what another session is started
-/// with. What it is bound to stays, and which parameters are there after a fault is not said.
-pub fn decode_start_into(bytes: &[u8], start: &mut StartAuth) -> Result<(), Refusal>
-    ensures reads { placed
-        (params.StartAuthSession start.new.nonce_caller start.new.session_type
-        start.new.symmetric start.new.auth_hash) result
+/// As `decode_params_into` of TPM2_StartAuthSession (Part 3, 11.1), in the place of others of the same command. Which
+/// are there after a fault is not said.
+pub fn decode_start_into(bytes: &[u8], start: &mut StartParams) -> Result<(), Refusal>
+    ensures { placed (params.StartAuthSession start.new) result
         ≡ read_all (parameters codes.StartAuthSession) bytes.now }
-    ensures bind { start.new.bind ≡ start.old.bind }
 {
     let mut cursor = Cursor::of_whole(bytes);
-    read_start_auth_session(
-        &mut cursor,
-        &mut start.nonce_caller,
-        &mut start.session_type,
-        &mut start.symmetric,
-        &mut start.auth_hash,
-    )?;
+    start.read(&mut cursor)?;
     cursor.end_of_whole(bytes)
 }

@@ -2,7 +2,10 @@
 
 ghost use Rattle.std.specs.Prelude.{◌≡◌, ◌≤◌, ◌+◌, ◌*◌, ◌++◌, length, ℕ, IfOk, OnOk};
 ghost use Rattle.tpm_wire.specs.Spelling.{spelling, Fits};
-ghost use Rattle.tpm_wire.specs.Buffers.{TakesNumbered};
+ghost use Rattle.tpm_wire.specs.Buffers.{TakesNumbered, numbered};
+ghost use Rattle.tpm_wire.specs.ResponseCodes.{of_parameter as number_of_parameter};
+ghost use Rattle.tpm_wire.specs.Structures.{sized_bytes};
+ghost use Rattle.tpm_commands.specs.Events.{event_bytes};
 ghost use Rattle.tpm_commands.specs.Limits.{most_params, most_reply_params};
 ghost use Rattle.tpm_commands.specs.Handles.{handle_kinds, needs_authorization as does_need, handles as handles_layout};
 ghost use Rattle.tpm_commands.specs.Parameters.{params_code, parameters};
@@ -17,22 +20,24 @@ mod policy;
 mod session;
 mod startup;
 
-use crate::command::{CommandBody, StartAuth};
+use crate::command::{CommandBody, Params, StartAuth};
 use crate::command_handles::{
     HandleKind, bind_in, first_handle, index_in, nv_auth_in, one_handle, pcr_or_null_in, policy_in,
     register_in, second_handle, two_handles,
 };
-use crate::command_parameters::Params;
+use crate::lent::Event;
 use crate::response::ReplyBody;
 use arrayvec::ArrayVec;
-pub use nv::read_nv_read;
+pub use nv::{NvDefineSpace, NvRead};
 pub use pcr::read_pcr_extend;
-pub(crate) use session::read_start_auth_session;
+pub use policy::PolicyPcr;
+pub use session::StartParams;
 pub use startup::read_startup;
 use tpm_types::{
-    Alg, AuthValue, BindHandle, CommandCode, Digest, DigestValues, Nonce, NvAuthHandle, PcrIndex,
-    PcrOrNull, RH_NULL, RH_OWNER, Selections, SessionHandle, SessionType, StartupType, SymDef,
+    BindHandle, CommandCode, DigestValues, NvAuthHandle, PcrIndex, PcrOrNull, RH_NULL, RH_OWNER,
+    Selections, SessionHandle, StartupType,
 };
+use tpm_wire::response_code::of_parameter;
 use tpm_wire::{Cursor, Refusal, Room, Wire};
 
 // ---- rows
@@ -75,6 +80,33 @@ pub(crate) fn row_of(code: CommandCode) -> Row
     }
 }
 
+// ---- a command's only parameter
+
+// Reads it in the place of another, or answers its first fault.
+#[inline(always)]
+fn read_only<T: Wire + Drop>(cursor: &mut Cursor<'_>, only: &mut T) -> Result<(), Refusal>
+    ensures reads { TakesNumbered (λ _. only.new) (numbered (number_of_parameter 1) T.layout)
+        cursor.old cursor.new result }
+    ensures spelled { OnOk result
+        (cursor.old.here.rest ≡ spelling T.layout only.new ++ cursor.new.here.rest) }
+{
+    cursor.number(of_parameter(1));
+    only.read(cursor)
+}
+
+// The event that is read.
+#[inline(always)]
+fn take_event<'a>(cursor: &mut Cursor<'a>) -> Result<Event<'a>, Refusal>
+    ensures reads { TakesNumbered (λ e. e) (numbered (number_of_parameter 1) (sized_bytes event_bytes))
+        cursor.old cursor.new result }
+    ensures spelled { IfOk result
+        (λ e. cursor.old.here.rest
+        ≡ spelling (sized_bytes event_bytes) e ++ cursor.new.here.rest) }
+{
+    cursor.number(of_parameter(1));
+    Event::take(cursor)
+}
+
 // ---- commands
 
 impl CommandBody<'_> {
@@ -84,7 +116,7 @@ impl CommandBody<'_> {
     {
         match self {
             CommandBody::NvUndefineSpace { .. } => CommandCode::NvUndefineSpace,
-            CommandBody::NvDefineSpace { .. } => CommandCode::NvDefineSpace,
+            CommandBody::NvDefineSpace(_) => CommandCode::NvDefineSpace,
             CommandBody::NvIncrement { .. } => CommandCode::NvIncrement,
             CommandBody::PcrEvent { .. } => CommandCode::PcrEvent,
             CommandBody::PcrReset { .. } => CommandCode::PcrReset,
@@ -113,7 +145,7 @@ impl CommandBody<'_> {
     {
         match self {
             CommandBody::NvUndefineSpace { index } => two_handles(RH_OWNER, index.number()),
-            CommandBody::NvDefineSpace { .. } => one_handle(RH_OWNER),
+            CommandBody::NvDefineSpace(_) => one_handle(RH_OWNER),
             CommandBody::NvIncrement { by, index } => two_handles(by.number(), index.number()),
             CommandBody::PcrEvent { register, .. } => one_handle(register.number()),
             CommandBody::PcrReset { register } => one_handle(register.number()),
@@ -133,6 +165,7 @@ impl CommandBody<'_> {
     }
 
     /// How many bytes its parameters have, 0 to 3,500.
+    #[tactic(auto, unfolding(crate::specs::Parameters::pcr_event, crate::specs::Parameters::startup, crate::specs::Parameters::flush_context, crate::specs::Parameters::policy_command_code, crate::specs::Parameters::policy_or, crate::specs::Parameters::pcr_read, crate::specs::Parameters::pcr_extend,))]
     pub fn params_len(&self) -> usize
         ensures value { result
             ≡ length (spelling (parameters (code_for self.now)) (params_of self.now)) }
@@ -141,21 +174,38 @@ impl CommandBody<'_> {
             → Fits left (parameters (code_for self.now)) (params_of self.now) }
     {
         match self {
-            CommandBody::NvDefineSpace { auth, public } => nv::nv_define_space_len(auth, public),
-            CommandBody::PcrEvent { event, .. } => pcr::pcr_event_len(event),
-            CommandBody::Startup(startup_type) => startup::startup_len(*startup_type),
-            CommandBody::NvRead { size, offset, .. } => nv::nv_read_len(*size, *offset),
-            CommandBody::FlushContext(session) => context::flush_context_len(*session),
-            CommandBody::PolicyCommandCode { code, .. } => policy::policy_command_code_len(*code),
-            CommandBody::PolicyOr { digests, .. } => policy::policy_or_len(digests),
-            CommandBody::StartAuthSession(start) => session::start_auth_session_len(start),
-            CommandBody::PcrRead(selections) => pcr::pcr_read_len(selections),
-            CommandBody::PolicyPcr {
-                pcr_digest,
-                selections,
-                ..
-            } => policy::policy_pcr_len(pcr_digest, selections),
-            CommandBody::PcrExtend { digests, .. } => pcr::pcr_extend_len(digests),
+            CommandBody::NvDefineSpace(params) => params.len(),
+            CommandBody::PcrEvent { event, .. } => {
+                event.has_spelling();
+                event.len()
+            }
+            CommandBody::Startup(startup_type) => {
+                startup_type.has_spelling();
+                startup_type.len()
+            }
+            CommandBody::NvRead { params, .. } => params.len(),
+            CommandBody::FlushContext(session) => {
+                session.has_spelling();
+                session.len()
+            }
+            CommandBody::PolicyCommandCode { code, .. } => {
+                prove!(*code <= u32::MAX);
+                code.len()
+            }
+            CommandBody::PolicyOr { digests, .. } => {
+                digests.has_spelling();
+                digests.len()
+            }
+            CommandBody::StartAuthSession(start) => start.params.len(),
+            CommandBody::PcrRead(selections) => {
+                selections.has_spelling();
+                selections.len()
+            }
+            CommandBody::PolicyPcr { params, .. } => params.len(),
+            CommandBody::PcrExtend { digests, .. } => {
+                digests.has_spelling();
+                digests.len()
+            }
             CommandBody::NvUndefineSpace { .. }
             | CommandBody::NvIncrement { .. }
             | CommandBody::PcrReset { .. }
@@ -167,6 +217,7 @@ impl CommandBody<'_> {
     }
 
     /// Adds its parameters at the end.
+    #[tactic(auto, unfolding(crate::specs::Parameters::pcr_event, crate::specs::Parameters::startup, crate::specs::Parameters::flush_context, crate::specs::Parameters::policy_command_code, crate::specs::Parameters::policy_or, crate::specs::Parameters::pcr_read, crate::specs::Parameters::pcr_extend,))]
     #[inline(never)]
     pub fn put_params<R: Room>(&self, out: &mut R)
         requires { length (R.written out.old)
@@ -176,25 +227,17 @@ impl CommandBody<'_> {
             ≡ R.written out.old ++ spelling (parameters (code_for self.now)) (params_of self.now) }
     {
         match self {
-            CommandBody::NvDefineSpace { auth, public } => nv::put_nv_define_space(
-                auth, public, out,
-            ),
-            CommandBody::PcrEvent { event, .. } => pcr::put_pcr_event(event, out),
-            CommandBody::Startup(startup_type) => startup::put_startup(*startup_type, out),
-            CommandBody::NvRead { size, offset, .. } => nv::put_nv_read(*size, *offset, out),
-            CommandBody::FlushContext(session) => context::put_flush_context(*session, out),
-            CommandBody::PolicyCommandCode { code, .. } => policy::put_policy_command_code(
-                *code, out,
-            ),
-            CommandBody::PolicyOr { digests, .. } => policy::put_policy_or(digests, out),
-            CommandBody::StartAuthSession(start) => session::put_start_auth_session(start, out),
-            CommandBody::PcrRead(selections) => pcr::put_pcr_read(selections, out),
-            CommandBody::PolicyPcr {
-                pcr_digest,
-                selections,
-                ..
-            } => policy::put_policy_pcr(pcr_digest, selections, out),
-            CommandBody::PcrExtend { digests, .. } => pcr::put_pcr_extend(digests, out),
+            CommandBody::NvDefineSpace(params) => params.put(out),
+            CommandBody::PcrEvent { event, .. } => event.put(out),
+            CommandBody::Startup(startup_type) => startup_type.put(out),
+            CommandBody::NvRead { params, .. } => params.put(out),
+            CommandBody::FlushContext(session) => session.put(out),
+            CommandBody::PolicyCommandCode { code, .. } => code.put(out),
+            CommandBody::PolicyOr { digests, .. } => digests.put(out),
+            CommandBody::StartAuthSession(start) => start.params.put(out),
+            CommandBody::PcrRead(selections) => selections.put(out),
+            CommandBody::PolicyPcr { params, .. } => params.put(out),
+            CommandBody::PcrExtend { digests, .. } => digests.put(out),
             CommandBody::NvUndefineSpace { .. }
             | CommandBody::NvIncrement { .. }
             | CommandBody::PcrReset { .. }
@@ -217,10 +260,7 @@ impl<'a> CommandBody<'a> {
             CommandCode::NvUndefineSpace => *self = CommandBody::NvUndefineSpace {
                 index: index_in(0),
             },
-            CommandCode::NvDefineSpace => *self = CommandBody::NvDefineSpace {
-                auth: AuthValue::default(),
-                public: nv::any_public(),
-            },
+            CommandCode::NvDefineSpace => *self = CommandBody::NvDefineSpace(NvDefineSpace::any()),
             CommandCode::NvIncrement => *self = CommandBody::NvIncrement {
                 by: NvAuthHandle::Owner,
                 index: index_in(0),
@@ -236,8 +276,7 @@ impl<'a> CommandBody<'a> {
             CommandCode::NvRead => *self = CommandBody::NvRead {
                 by: NvAuthHandle::Owner,
                 index: index_in(0),
-                size: 0,
-                offset: 0,
+                params: NvRead::any(),
             },
             CommandCode::FlushContext => *self = CommandBody::FlushContext(context::any_session()),
             CommandCode::NvReadPublic => *self = CommandBody::NvReadPublic { index: index_in(0) },
@@ -254,16 +293,12 @@ impl<'a> CommandBody<'a> {
             },
             CommandCode::StartAuthSession => *self = CommandBody::StartAuthSession(StartAuth {
                 bind: BindHandle::Null,
-                nonce_caller: Nonce::default(),
-                session_type: SessionType::Hmac,
-                symmetric: SymDef::Null,
-                auth_hash: Alg::default(),
+                params: StartParams::any(),
             }),
             CommandCode::PcrRead => *self = CommandBody::PcrRead(Selections::default()),
             CommandCode::PolicyPcr => *self = CommandBody::PolicyPcr {
                 session: policy_in(0),
-                pcr_digest: Digest::default(),
-                selections: Selections::default(),
+                params: PolicyPcr::any(),
             },
             CommandCode::PolicyRestart => *self = CommandBody::PolicyRestart {
                 session: policy_in(0),
@@ -284,6 +319,7 @@ impl<'a> CommandBody<'a> {
     ///
     /// A handle that is missing, or that the command cannot have, is never met where both were read under one
     /// code; in its place stands one of its kind.
+    #[tactic(auto, unfolding(crate::specs::Parameters::pcr_event, crate::specs::Parameters::flush_context, crate::specs::Parameters::policy_command_code, crate::specs::Parameters::policy_or, crate::specs::Parameters::pcr_read,))]
     pub fn read(&mut self, cursor: &mut Cursor<'a>, handles: &[u32]) -> Result<(), Refusal>
         ensures reads { TakesNumbered (λ _. params_of self.new) (parameters (code_for self.old))
             cursor.old cursor.new result }
@@ -303,9 +339,7 @@ impl<'a> CommandBody<'a> {
                 };
                 Ok(())
             }
-            CommandBody::NvDefineSpace { auth, public } => nv::read_nv_define_space(
-                cursor, auth, public,
-            ),
+            CommandBody::NvDefineSpace(params) => params.read(cursor),
             CommandBody::NvIncrement { .. } => {
                 *self = CommandBody::NvIncrement {
                     by: nv_auth_in(first),
@@ -316,7 +350,7 @@ impl<'a> CommandBody<'a> {
             CommandBody::PcrEvent { .. } => {
                 *self = CommandBody::PcrEvent {
                     register: pcr_or_null_in(first),
-                    event: pcr::take_pcr_event(cursor)?,
+                    event: take_event(cursor)?,
                 };
                 Ok(())
             }
@@ -327,17 +361,12 @@ impl<'a> CommandBody<'a> {
                 Ok(())
             }
             CommandBody::Startup(startup_type) => startup::read_startup(cursor, startup_type),
-            CommandBody::NvRead {
-                by,
-                index,
-                size,
-                offset,
-            } => {
+            CommandBody::NvRead { by, index, params } => {
                 *by = nv_auth_in(first);
                 *index = index_in(second);
-                nv::read_nv_read(cursor, size, offset)
+                params.read(cursor)
             }
-            CommandBody::FlushContext(session) => context::read_flush_context(cursor, session),
+            CommandBody::FlushContext(session) => read_only(cursor, session),
             CommandBody::NvReadPublic { .. } => {
                 *self = CommandBody::NvReadPublic {
                     index: index_in(first),
@@ -352,30 +381,20 @@ impl<'a> CommandBody<'a> {
             }
             CommandBody::PolicyCommandCode { session, code } => {
                 *session = policy_in(first);
-                policy::read_policy_command_code(cursor, code)
+                read_only(cursor, code)
             }
             CommandBody::PolicyOr { session, digests } => {
                 *session = policy_in(first);
-                policy::read_policy_or(cursor, digests)
+                read_only(cursor, digests)
             }
             CommandBody::StartAuthSession(start) => {
                 start.bind = bind_in(second);
-                session::read_start_auth_session(
-                    cursor,
-                    &mut start.nonce_caller,
-                    &mut start.session_type,
-                    &mut start.symmetric,
-                    &mut start.auth_hash,
-                )
+                start.params.read(cursor)
             }
-            CommandBody::PcrRead(selections) => pcr::read_pcr_read(cursor, selections),
-            CommandBody::PolicyPcr {
-                session,
-                pcr_digest,
-                selections,
-            } => {
+            CommandBody::PcrRead(selections) => read_only(cursor, selections),
+            CommandBody::PolicyPcr { session, params } => {
                 *session = policy_in(first);
-                policy::read_policy_pcr(cursor, pcr_digest, selections)
+                params.read(cursor)
             }
             CommandBody::PolicyRestart { .. } => {
                 *self = CommandBody::PolicyRestart {
@@ -408,31 +427,20 @@ impl<'a> Params<'a> {
     {
         match code {
             CommandCode::NvUndefineSpace => *self = Params::NvUndefineSpace,
-            CommandCode::NvDefineSpace => *self = Params::NvDefineSpace {
-                auth: AuthValue::default(),
-                public: nv::any_public(),
-            },
+            CommandCode::NvDefineSpace => *self = Params::NvDefineSpace(NvDefineSpace::any()),
             CommandCode::NvIncrement => *self = Params::NvIncrement,
             CommandCode::PcrEvent => *self = Params::PcrEvent(pcr::any_event()),
             CommandCode::PcrReset => *self = Params::PcrReset,
             CommandCode::Startup => *self = Params::Startup(StartupType::Clear),
-            CommandCode::NvRead => *self = Params::NvRead { size: 0, offset: 0 },
+            CommandCode::NvRead => *self = Params::NvRead(NvRead::any()),
             CommandCode::FlushContext => *self = Params::FlushContext(context::any_session()),
             CommandCode::NvReadPublic => *self = Params::NvReadPublic,
             CommandCode::PolicyAuthValue => *self = Params::PolicyAuthValue,
             CommandCode::PolicyCommandCode => *self = Params::PolicyCommandCode(0),
             CommandCode::PolicyOr => *self = Params::PolicyOr(policy::any_digests()),
-            CommandCode::StartAuthSession => *self = Params::StartAuthSession {
-                nonce_caller: Nonce::default(),
-                session_type: SessionType::Hmac,
-                symmetric: SymDef::Null,
-                auth_hash: Alg::default(),
-            },
+            CommandCode::StartAuthSession => *self = Params::StartAuthSession(StartParams::any()),
             CommandCode::PcrRead => *self = Params::PcrRead(Selections::default()),
-            CommandCode::PolicyPcr => *self = Params::PolicyPcr {
-                pcr_digest: Digest::default(),
-                selections: Selections::default(),
-            },
+            CommandCode::PolicyPcr => *self = Params::PolicyPcr(PolicyPcr::any()),
             CommandCode::PolicyRestart => *self = Params::PolicyRestart,
             CommandCode::PcrExtend => *self = Params::PcrExtend(DigestValues::default()),
             CommandCode::PolicyGetDigest => *self = Params::PolicyGetDigest,
@@ -440,6 +448,7 @@ impl<'a> Params<'a> {
     }
 
     // Reads parameters of the same command in their place.
+    #[tactic(auto, unfolding(crate::specs::Parameters::pcr_event, crate::specs::Parameters::flush_context, crate::specs::Parameters::policy_command_code, crate::specs::Parameters::policy_or, crate::specs::Parameters::pcr_read,))]
     pub(crate) fn read(&mut self, cursor: &mut Cursor<'a>) -> Result<(), Refusal>
         ensures reads { TakesNumbered (λ _. self.new) (parameters (params_code self.old))
             cursor.old cursor.new result }
@@ -449,35 +458,19 @@ impl<'a> Params<'a> {
         ensures code { OnOk result (params_code self.new ≡ params_code self.old) }
     {
         match self {
-            Params::NvDefineSpace { auth, public } => nv::read_nv_define_space(
-                cursor, auth, public,
-            ),
+            Params::NvDefineSpace(params) => params.read(cursor),
             Params::PcrEvent(event) => {
-                *event = pcr::take_pcr_event(cursor)?;
+                *event = take_event(cursor)?;
                 Ok(())
             }
             Params::Startup(startup_type) => startup::read_startup(cursor, startup_type),
-            Params::NvRead { size, offset } => nv::read_nv_read(cursor, size, offset),
-            Params::FlushContext(session) => context::read_flush_context(cursor, session),
-            Params::PolicyCommandCode(code) => policy::read_policy_command_code(cursor, code),
-            Params::PolicyOr(digests) => policy::read_policy_or(cursor, digests),
-            Params::StartAuthSession {
-                nonce_caller,
-                session_type,
-                symmetric,
-                auth_hash,
-            } => session::read_start_auth_session(
-                cursor,
-                nonce_caller,
-                session_type,
-                symmetric,
-                auth_hash,
-            ),
-            Params::PcrRead(selections) => pcr::read_pcr_read(cursor, selections),
-            Params::PolicyPcr {
-                pcr_digest,
-                selections,
-            } => policy::read_policy_pcr(cursor, pcr_digest, selections),
+            Params::NvRead(params) => params.read(cursor),
+            Params::FlushContext(session) => read_only(cursor, session),
+            Params::PolicyCommandCode(code) => read_only(cursor, code),
+            Params::PolicyOr(digests) => read_only(cursor, digests),
+            Params::StartAuthSession(params) => params.read(cursor),
+            Params::PcrRead(selections) => read_only(cursor, selections),
+            Params::PolicyPcr(params) => params.read(cursor),
             Params::PcrExtend(digests) => pcr::read_pcr_extend(cursor, digests),
             Params::NvUndefineSpace
             | Params::NvIncrement
@@ -659,6 +652,7 @@ impl ReplyBody {
     }
 
     /// How many bytes its parameters have, 0 to 430.
+    #[tactic(auto, unfolding(crate::specs::Replies::pcr_event_reply, crate::specs::Replies::nv_read_reply, crate::specs::Replies::policy_get_digest_reply,))]
     #[inline(always)]
     pub fn params_len(&self) -> usize
         ensures value { result ≡ length (spelling (parameters_of_reply self.now) self.now) }
@@ -666,8 +660,14 @@ impl ReplyBody {
         ensures spelled { (left : ℕ) → Fits left (parameters_of_reply self.now) self.now }
     {
         match self {
-            ReplyBody::PcrEvent(digests) => pcr::pcr_event_reply_len(digests),
-            ReplyBody::NvRead(bytes) => nv::nv_read_reply_len(bytes),
+            ReplyBody::PcrEvent(digests) => {
+                digests.has_spelling();
+                digests.len()
+            }
+            ReplyBody::NvRead(bytes) => {
+                bytes.has_spelling();
+                bytes.len()
+            }
             ReplyBody::NvReadPublic { public, name } => nv::nv_read_public_reply_len(public, name),
             ReplyBody::StartAuthSession(reply) => session::start_auth_session_reply_len(reply),
             ReplyBody::PcrRead {
@@ -675,7 +675,10 @@ impl ReplyBody {
                 selections,
                 digests,
             } => pcr::pcr_read_reply_len(*update_counter, selections, digests),
-            ReplyBody::PolicyGetDigest(digest) => policy::policy_get_digest_reply_len(digest),
+            ReplyBody::PolicyGetDigest(digest) => {
+                digest.has_spelling();
+                digest.len()
+            }
             ReplyBody::NvUndefineSpace
             | ReplyBody::NvDefineSpace
             | ReplyBody::NvIncrement
@@ -692,6 +695,7 @@ impl ReplyBody {
     }
 
     /// Adds its parameters at the end.
+    #[tactic(auto, unfolding(crate::specs::Replies::pcr_event_reply, crate::specs::Replies::nv_read_reply, crate::specs::Replies::policy_get_digest_reply,))]
     pub fn put_params<R: Room>(&self, out: &mut R)
         requires { length (R.written out.old)
             + length (spelling (parameters_of_reply self.now) self.now)
@@ -700,8 +704,8 @@ impl ReplyBody {
             ≡ R.written out.old ++ spelling (parameters_of_reply self.now) self.now }
     {
         match self {
-            ReplyBody::PcrEvent(digests) => pcr::put_pcr_event_reply(digests, out),
-            ReplyBody::NvRead(bytes) => nv::put_nv_read_reply(bytes, out),
+            ReplyBody::PcrEvent(digests) => digests.put(out),
+            ReplyBody::NvRead(bytes) => bytes.put(out),
             ReplyBody::NvReadPublic { public, name } => nv::put_nv_read_public_reply(
                 public, name, out,
             ),
@@ -711,7 +715,7 @@ impl ReplyBody {
                 selections,
                 digests,
             } => pcr::put_pcr_read_reply(*update_counter, selections, digests, out),
-            ReplyBody::PolicyGetDigest(digest) => policy::put_policy_get_digest_reply(digest, out),
+            ReplyBody::PolicyGetDigest(digest) => digest.put(out),
             ReplyBody::NvUndefineSpace
             | ReplyBody::NvDefineSpace
             | ReplyBody::NvIncrement

@@ -73,7 +73,7 @@ value_stays i g handle (c ∷ cs) = one_of (has_index i c) i g handle c cs (valu
 value_after : (o : Origin) (h : History) (body : CommandBody) (reply : ReplyBody) (n : List ℕ) (handle : ℕ) → needs_authorization (code_for body) ≡ true
     → (owner_authorizes (code_for body) ≡ true → is_owner handle ≡ true)
     → auth_value (entity_of (present o h) handle) ≡ auth_value (entity_of (present o (step_of body reply n ∷ h)) handle)
-value_after o h (bodies.NvDefineSpace auth public) reply n handle needs owner =
+value_after o h (bodies.NvDefineSpace asked) reply n handle needs owner =
     owners_value (is_pcr handle) (is_owner handle) (is_nv_index handle) o.owner _ _ (owner refl)
 value_after o h (bodies.NvUndefineSpace index) reply n handle needs owner =
     owners_value (is_pcr handle) (is_owner handle) (is_nv_index handle) o.owner _ _ (owner refl)

@@ -58,7 +58,7 @@ pub sessions_stay : (o : Origin) (h : History) (body : CommandBody) (reply : Rep
 sessions_stay o h (bodies.Startup kind) reply n needs = absurd (cc)
 sessions_stay o h (bodies.StartAuthSession start) reply n needs = absurd (cc)
 sessions_stay o h (bodies.FlushContext handle) reply n needs = absurd (cc)
-sessions_stay o h (bodies.PolicyPcr handle d sels) reply n needs = absurd (cc)
+sessions_stay o h (bodies.PolicyPcr handle asked) reply n needs = absurd (cc)
 sessions_stay o h (bodies.PolicyOr handle ds) reply n needs = absurd (cc)
 sessions_stay o h (bodies.PolicyCommandCode handle code) reply n needs = absurd (cc)
 sessions_stay o h (bodies.PolicyAuthValue handle) reply n needs = absurd (cc)

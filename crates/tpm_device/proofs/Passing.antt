@@ -12,7 +12,7 @@ use Rattle.tpm_types.specs.Handles.{is_owner}
 use Rattle.tpm_types.specs.declared.command_code.CommandCode.{CommandCode}
 use Rattle.tpm_commands.specs.declared.command.CommandBody.{CommandBody}
 use Rattle.tpm_commands.specs.declared.command.Header.{Header}
-use Rattle.tpm_commands.specs.declared.command_parameters.Params.{Params}
+use Rattle.tpm_commands.specs.declared.command.Params.{Params}
 use Rattle.tpm_commands.specs.declared.response.ReplyBody.{ReplyBody}
 use Rattle.tpm_commands.specs.Handles.{first, needs_authorization}
 use Rattle.tpm_commands.specs.Parameters.{parameters}

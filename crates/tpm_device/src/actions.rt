@@ -48,28 +48,17 @@ impl Device {
                 self.read_registers(selections, body);
                 Ok(())
             }
-            Params::StartAuthSession {
-                nonce_caller,
-                session_type,
-                symmetric,
-                auth_hash,
-            } => {
+            Params::StartAuthSession(params) => {
                 let start = StartAuth {
                     bind: bind_in(second),
-                    nonce_caller: nonce_caller.duplicate(),
-                    session_type: *session_type,
-                    symmetric: *symmetric,
-                    auth_hash: *auth_hash,
+                    params: params.duplicate(),
                 };
                 self.start_session(&start, nonce, body)
             }
             Params::FlushContext(session) => self.flush(*session, body),
-            Params::PolicyPcr {
-                pcr_digest,
-                selections,
-            } => {
+            Params::PolicyPcr(asked) => {
                 *body = ReplyBody::PolicyPcr;
-                self.policy_pcr(policy_in(first), pcr_digest, selections)
+                self.policy_pcr(policy_in(first), asked)
             }
             Params::PolicyOr(digests) => self.policy_or(policy_in(first), digests, body),
             Params::PolicyCommandCode(code) => {
@@ -78,11 +67,11 @@ impl Device {
             Params::PolicyAuthValue => self.policy_auth_value(policy_in(first), body),
             Params::PolicyRestart => self.policy_restart(policy_in(first), body),
             Params::PolicyGetDigest => self.policy_digest(policy_in(first), body),
-            Params::NvDefineSpace { auth, public } => self.define(auth, public, body),
+            Params::NvDefineSpace(asked) => self.define(asked, body),
             Params::NvUndefineSpace => self.undefine(index_in(second), body),
             Params::NvIncrement => self.increment(nv_auth_in(first), index_in(second), body),
-            Params::NvRead { size, offset } => {
-                self.read_counter(nv_auth_in(first), index_in(second), *size, *offset, body)
+            Params::NvRead(asked) => {
+                self.read_counter(nv_auth_in(first), index_in(second), *asked, body)
             }
             Params::NvReadPublic => self.read_public(index_in(first), body),
         }

@@ -4,7 +4,7 @@ ghost use Rattle.std.specs.Prelude.{◌≡◌, Ok, Err, IfOk, IfErr};
 ghost use Rattle.tpm_wire.specs.declared.refusal.Refusal.{Refusal as Fault};
 ghost use Rattle.tpm_wire.specs.Reading.{read_all};
 ghost use Rattle.tpm_types.specs.declared.command_code.CommandCode.TheVariants as codes;
-ghost use Rattle.tpm_commands.specs.declared.command_parameters.Params.TheVariants as of_command;
+ghost use Rattle.tpm_commands.specs.declared.command.Params.TheVariants as of_command;
 ghost use Rattle.tpm_commands.specs.Parameters.{parameters};
 ghost use Rattle.tpm_model.specs.Answers.{performed as performed_of};
 ghost use Rattle.tpm_device.specs.Stands.{holds};
@@ -14,17 +14,16 @@ use crate::device::Device;
 use crate::reading::read_params;
 use crate::response::ResponseBuffer;
 use tpm_buffer::Areas;
-use tpm_commands::{Params, first_handle, policy_in};
+use tpm_commands::{Params, PolicyPcr, first_handle, policy_in};
 use tpm_session::Authorization;
-use tpm_types::{Digest, Selections};
 
 // The digest and the registers that are asserted, or the code of the parameters' first fault.
 #[inline(never)]
-fn asserted_in(areas: &Areas<'_>) -> Result<(Digest, Selections), u32>
+fn asserted_in(areas: &Areas<'_>) -> Result<PolicyPcr, u32>
     requires { areas.now.header.code ≡ codes.PolicyPcr }
     ensures read { IfOk result (λ x.
         read_all (parameters codes.PolicyPcr) areas.now.params
-        ≡ Ok (of_command.PolicyPcr x.0 x.1)) }
+        ≡ Ok (of_command.PolicyPcr x)) }
     ensures faulty { IfErr result (λ code. (fault : Fault)
         × (read_all (parameters codes.PolicyPcr) areas.now.params ≡ Err fault)
         × (fault.code ≡ code)) }
@@ -32,10 +31,7 @@ fn asserted_in(areas: &Areas<'_>) -> Result<(Digest, Selections), u32>
     let mut params = Params::PolicyRestart;
     match read_params(areas, &mut params) {
         Ok(()) => match params {
-            Params::PolicyPcr {
-                pcr_digest,
-                selections,
-            } => Ok((pcr_digest, selections)),
+            Params::PolicyPcr(asked) => Ok(asked),
             _ => unreachable!(),
         },
         Err(code) => Err(code),
@@ -60,7 +56,7 @@ impl Device {
     {
         let asserted = asserted_in(areas)?;
         let session = policy_in(first_handle(areas.handles()));
-        self.policy_pcr(session, &asserted.0, &asserted.1)?;
+        self.policy_pcr(session, &asserted)?;
         self.put_bare(areas, by, nonce, out);
         self.roll(by, nonce);
         Ok(())

@@ -6,10 +6,10 @@
 ghost use Rattle.std.specs.Prelude.{◌≡◌, ◌≤◌, length, Ok, IfSome};
 ghost use Rattle.tpm_wire.specs.Reading.{read_all};
 ghost use Rattle.tpm_types.specs.declared.command_code.CommandCode.TheVariants as codes;
-ghost use Rattle.tpm_commands.specs.declared.command_parameters.Params.TheVariants as of_command;
+ghost use Rattle.tpm_commands.specs.declared.command.Params.TheVariants as of_command;
 ghost use Rattle.tpm_commands.specs.Parameters.{parameters, params_code};
 
-use tpm_commands::{Params, read_nv_read, read_startup};
+use tpm_commands::{NvRead, Params, read_startup};
 use tpm_types::{CommandCode, StartupType};
 use tpm_wire::Cursor;
 
@@ -30,15 +30,15 @@ fn startup_kind(bytes: &[u8]) -> Option<StartupType>
 
 // The size and the offset of TPM2_NV_Read, where the bytes spell them.
 #[inline(always)]
-fn nv_read_sizes(bytes: &[u8]) -> Option<(u16, u16)>
+fn nv_read_sizes(bytes: &[u8]) -> Option<NvRead>
     requires { length bytes.now ≤ 4096 }
     ensures { IfSome result (λ x.
-        read_all (parameters codes.NvRead) bytes.now ≡ Ok (of_command.NvRead x.0 x.1)) }
+        read_all (parameters codes.NvRead) bytes.now ≡ Ok (of_command.NvRead x)) }
 {
     let mut cursor = Cursor::new(bytes);
-    let (mut size, mut offset) = (0, 0);
-    match read_nv_read(&mut cursor, &mut size, &mut offset) {
-        Ok(()) if cursor.left() == 0 => Some((size, offset)),
+    let mut sizes = NvRead::any();
+    match sizes.read(&mut cursor) {
+        Ok(()) if cursor.left() == 0 => Some(sizes),
         _ => None,
     }
 }
@@ -59,10 +59,7 @@ pub(crate) fn bare(code: CommandCode, bytes: &[u8]) -> Option<Params<'static>>
         (CommandCode::PolicyRestart, []) => Some(Params::PolicyRestart),
         (CommandCode::PolicyGetDigest, []) => Some(Params::PolicyGetDigest),
         (CommandCode::Startup, _) => Some(Params::Startup(startup_kind(bytes)?)),
-        (CommandCode::NvRead, _) => {
-            let (size, offset) = nv_read_sizes(bytes)?;
-            Some(Params::NvRead { size, offset })
-        }
+        (CommandCode::NvRead, _) => Some(Params::NvRead(nv_read_sizes(bytes)?)),
         _ => None,
     }
 }

@@ -7,34 +7,27 @@ ghost use Rattle.tpm_device.specs.Stands.{holds};
 ghost use Rattle.tpm_device.specs.inner.Actions.{acted, step_of, Steps};
 
 use crate::device::Device;
-use tpm_commands::{NvData, ReplyBody};
+use tpm_commands::{NvData, NvDefineSpace, NvRead, ReplyBody};
 use tpm_nv::By;
-use tpm_types::{AuthValue, NvIndex, NvPublic};
+use tpm_types::NvIndex;
 use tpm_wire::response_code::HANDLE;
 
 impl Device {
     // TPM2_NV_DefineSpace (Part 3, 31.3).
     #[inline(never)]
-    pub(crate) fn define(
-        &mut self,
-        auth: &AuthValue,
-        public: &NvPublic,
-        body: &mut ReplyBody,
-    ) -> Result<(), u32>
+    pub(crate) fn define(&mut self, asked: &NvDefineSpace, body: &mut ReplyBody) -> Result<(), u32>
         ensures answer { (n : List ℕ) →
-            acted body.new result ≡
-            action (holds self.old) (bodies.NvDefineSpace auth.now public.now) n }
+            acted body.new result ≡ action (holds self.old) (bodies.NvDefineSpace asked.now) n }
         ensures stands { (n : List ℕ) →
             OnOk result
-            (Steps self.old self.new
-            (step_of (bodies.NvDefineSpace auth.now public.now) body.new n)) }
+            (Steps self.old self.new (step_of (bodies.NvDefineSpace asked.now) body.new n)) }
         ensures sessions { self.new.sessions ≡ self.old.sessions }
         ensures refused { OnErr result (self.new ≡ self.old) }
     {
         if !matches!(body, ReplyBody::NvDefineSpace) {
             *body = ReplyBody::NvDefineSpace;
         }
-        self.counters.define(public, auth.as_slice())
+        self.counters.define(&asked.public, asked.auth.as_slice())
     }
 
     // TPM2_NV_UndefineSpace (Part 3, 31.4).
@@ -80,16 +73,15 @@ impl Device {
         &self,
         by: By,
         index: NvIndex,
-        size: u16,
-        offset: u16,
+        asked: NvRead,
         body: &mut ReplyBody,
     ) -> Result<(), u32>
         ensures { (n : List ℕ) →
-            acted body.new result ≡ action (holds self.now) (bodies.NvRead by index size offset) n }
+            acted body.new result ≡ action (holds self.now) (bodies.NvRead by index asked) n }
     {
         *body = ReplyBody::NvRead(NvData::default());
         if let ReplyBody::NvRead(bytes) = body {
-            *bytes = self.counters.read(index, by, size, offset)?;
+            *bytes = self.counters.read(index, by, asked.size, asked.offset)?;
         }
         Ok(())
     }

@@ -8,30 +8,28 @@ ghost use Rattle.tpm_device.specs.Stands.{holds};
 ghost use Rattle.tpm_device.specs.inner.Actions.{acted, step_of, Steps};
 
 use crate::device::Device;
-use tpm_commands::ReplyBody;
-use tpm_types::{Digest, OrDigests, PolicyHandle, Selections};
+use tpm_commands::{PolicyPcr, ReplyBody};
+use tpm_types::{OrDigests, PolicyHandle};
 
 impl Device {
     // TPM2_PolicyPCR (Part 3, 23.7).
     #[inline(never)]
-    pub(crate) fn policy_pcr(
-        &mut self,
-        session: PolicyHandle,
-        pcr_digest: &Digest,
-        selections: &Selections,
-    ) -> Result<(), u32>
+    pub(crate) fn policy_pcr(&mut self, session: PolicyHandle, asked: &PolicyPcr) -> Result<(), u32>
         ensures answer { (n : List ℕ) →
             acted replies.PolicyPcr result ≡
-            action (holds self.old) (bodies.PolicyPcr session pcr_digest.now selections.now) n }
+            action (holds self.old) (bodies.PolicyPcr session asked.now) n }
         ensures stands { (n : List ℕ) →
             OnOk result
             (Steps self.old self.new
-            (step_of (bodies.PolicyPcr session pcr_digest.now selections.now)
-            replies.PolicyPcr n)) }
+            (step_of (bodies.PolicyPcr session asked.now) replies.PolicyPcr n)) }
         ensures refused { OnErr result (self.new ≡ self.old) }
     {
-        self.sessions
-            .policy_pcr(session, pcr_digest, selections, &self.registers)?;
+        self.sessions.policy_pcr(
+            session,
+            &asked.pcr_digest,
+            &asked.selections,
+            &self.registers,
+        )?;
         Ok(())
     }
 

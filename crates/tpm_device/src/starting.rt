@@ -6,7 +6,7 @@ ghost use Rattle.tpm_wire.specs.declared.refusal.Refusal.{Refusal as Fault};
 ghost use Rattle.tpm_wire.specs.Reading.{read_all};
 ghost use Rattle.tpm_types.specs.declared.command_code.CommandCode.TheVariants as codes;
 ghost use Rattle.tpm_commands.specs.declared.command.CommandBody.TheVariants as bodies;
-ghost use Rattle.tpm_commands.specs.declared.command_parameters.Params.{Params as ParamsOf};
+ghost use Rattle.tpm_commands.specs.declared.command.Params.{Params as ParamsOf};
 ghost use Rattle.tpm_commands.specs.declared.response.ReplyBody.TheVariants as replies;
 ghost use Rattle.tpm_commands.specs.Parameters.{parameters};
 ghost use Rattle.tpm_buffer.specs.Commands.{body_from};
@@ -20,9 +20,10 @@ ghost use Rattle.tpm_device.specs.inner.Answers.{Replies};
 use crate::device::Device;
 use crate::response::ResponseBuffer;
 use tpm_buffer::Areas;
-use tpm_commands::{ReplyBody, StartAuth, StartReply, bind_in, decode_start_into, second_handle};
+use tpm_commands::{
+    ReplyBody, StartAuth, StartParams, StartReply, bind_in, decode_start_into, second_handle,
+};
 use tpm_session::Authorization;
-use tpm_types::{Alg, Nonce, SessionType, SymDef};
 
 // What a session is to be started with, or the code of the parameters' first fault.
 #[inline(never)]
@@ -36,12 +37,9 @@ fn start_in(areas: &Areas<'_>) -> Result<StartAuth, u32>
 {
     let mut start = StartAuth {
         bind: bind_in(second_handle(areas.handles())),
-        nonce_caller: Nonce::default(),
-        session_type: SessionType::Hmac,
-        symmetric: SymDef::Null,
-        auth_hash: Alg::default(),
+        params: StartParams::any(),
     };
-    match decode_start_into(areas.params(), &mut start) {
+    match decode_start_into(areas.params(), &mut start.params) {
         Ok(()) => Ok(start),
         Err(refusal) => Err(refusal.code),
     }

@@ -4,7 +4,7 @@ ghost use Rattle.std.specs.Prelude.{◌≡◌, length};
 
 use arrayvec::ArrayVec;
 use tpm_caller::{Caller, Waiting};
-use tpm_commands::CommandBody;
+use tpm_commands::{CommandBody, NvDefineSpace, NvRead};
 use tpm_hmac::hash;
 use tpm_types::{
     Alg, AuthValue, Digest, NAME_BYTES, Name, Nonce, NvAttrs, NvAuthHandle, NvIndex, NvPublic,
@@ -81,10 +81,10 @@ impl Counter {
     pub(crate) fn define(&self, caller: Caller, nonce: Nonce) -> Waiting {
         let mut names = ArrayVec::new();
         names.push(name_of_handle(RH_OWNER));
-        let body = CommandBody::NvDefineSpace {
+        let body = CommandBody::NvDefineSpace(NvDefineSpace {
             auth: AuthValue::default(),
             public: self.public(),
-        };
+        });
         caller.seal(body, names, &[], nonce, true)
     }
 
@@ -102,8 +102,10 @@ impl Counter {
         let body = CommandBody::NvRead {
             by: NvAuthHandle::Owner,
             index: self.index(),
-            size: VALUE_BYTES,
-            offset: 0,
+            params: NvRead {
+                size: VALUE_BYTES,
+                offset: 0,
+            },
         };
         caller.seal(body, self.names(), &[], nonce, true)
     }

@@ -2,7 +2,7 @@
 
 use crate::print_bytes;
 use std::io;
-use tpm_commands::StartAuth;
+use tpm_commands::{StartAuth, StartParams};
 use tpm_session::Sessions;
 use tpm_types::{Alg, BindHandle, Nonce, PolicyHandle, SessionType, SymDef};
 
@@ -11,10 +11,12 @@ pub fn digest(rt: &impl Print) -> io::Result<()> {
     let mut sessions = Sessions::new();
     let trial = StartAuth {
         bind: BindHandle::Null,
-        nonce_caller: Nonce::new(&[0; 16]).unwrap_or_default(),
-        session_type: SessionType::Trial,
-        symmetric: SymDef::Null,
-        auth_hash: Alg::Sha256,
+        params: StartParams {
+            nonce_caller: Nonce::new(&[0; 16]).unwrap_or_default(),
+            session_type: SessionType::Trial,
+            symmetric: SymDef::Null,
+            auth_hash: Alg::Sha256,
+        },
     };
     let Ok(started) = sessions.start(&trial, &[], &[0; 64]) else {
         return println!(rt; "no session");

@@ -3,17 +3,19 @@
 use crate::fault::Fault;
 use crate::tpm::{Tpm, answered};
 use tpm_caller::{Caller, CallerFault, Waiting};
-use tpm_commands::{CommandBody, ReplyBody, StartAuth};
+use tpm_commands::{CommandBody, ReplyBody, StartAuth, StartParams};
 use tpm_types::{Alg, AuthValue, BindHandle, Nonce, SessionHandle, SessionType, SymDef};
 use tpm_wire::Duplicate;
 
 fn request(nonce_caller: Nonce) -> StartAuth {
     StartAuth {
         bind: BindHandle::Owner,
-        nonce_caller,
-        session_type: SessionType::Hmac,
-        symmetric: SymDef::Null,
-        auth_hash: Alg::Sha256,
+        params: StartParams {
+            nonce_caller,
+            session_type: SessionType::Hmac,
+            symmetric: SymDef::Null,
+            auth_hash: Alg::Sha256,
+        },
     }
 }
 

@@ -3,7 +3,7 @@ use Rattle.std.proofs.Common.{◌≡◌, ℕ, List, [], ◌∷◌, Result, Ok, E
 use Rattle.std.specs.Prelude.{ok_or}
 use Rattle.tpm_wire.specs.Reading.{read_all}
 use Rattle.tpm_wire.proofs.Agreement.{bind_ok}
-use Rattle.tpm_commands.specs.declared.command_parameters.Params.{Params}
+use Rattle.tpm_commands.specs.declared.command.Params.{Params}
 use Rattle.tpm_commands.specs.Parameters.{parameters}
 use Rattle.tpm_buffer.specs.Commands.{body_from}
 use Rattle.tpm_model.specs.Steps.{History, Accepted, PowerCycle, Origin}

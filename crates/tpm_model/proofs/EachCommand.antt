@@ -173,7 +173,8 @@ read_checked there by i size offset = next_too (defined_counter there) _ (looked
 
 session_started : (sessions : List (Option Session)) (s : StartAuth) (n : List ℕ) → Gives (bodies.StartAuthSession s) (start_session sessions s n)
 session_started sessions s n =
-    behind (bodies.StartAuthSession s) (refuse (nat_lt (length s.nonce_caller) 16 || nat_lt (digest_len s.auth_hash) (length s.nonce_caller)) 0x1D5) _
+    behind (bodies.StartAuthSession s)
+    (refuse (nat_lt (length s.params.nonce_caller) 16 || nat_lt (digest_len s.params.auth_hash) (length s.params.nonce_caller)) 0x1D5) _
     (tested _ _ (omega arith, omega arith)) (λ _.
     behind (bodies.StartAuthSession s) (ok_or (free_slot sessions) 0x903) _ (looked_up (free_slot sessions) 0x903 (omega arith, omega arith))
     (λ k. answers refl))
@@ -190,17 +191,19 @@ gives p (bodies.PcrReset q) n = replied _ _ _ (tested _ _ (omega arith, omega ar
 gives p (bodies.PcrRead sels) n = answers refl
 gives p (bodies.StartAuthSession start) n = session_started p.sessions start n
 gives p (bodies.FlushContext handle) n = replied _ _ _ (tested _ _ (omega arith, omega arith)) refl
-gives p (bodies.PolicyPcr handle d sels) n = in_policy _ p handle _ (λ s. replied _ _ _ (policy_pcr_checked s _ _ d) refl)
+gives p (bodies.PolicyPcr handle asked) n = in_policy _ p handle _ (λ s. replied _ _ _ (policy_pcr_checked s _ _ asked.pcr_digest) refl)
 gives p (bodies.PolicyOr handle digests) n = in_policy _ p handle _ (λ s. replied _ _ _ (tested _ _ (omega arith, omega arith)) refl)
 gives p (bodies.PolicyCommandCode handle code) n = in_policy _ p handle _ (λ s. replied _ _ _ (tested _ _ (omega arith, omega arith)) refl)
 gives p (bodies.PolicyAuthValue handle) n = replied _ _ _ (looked_up (loaded p.sessions handle) _ (omega arith, omega arith)) refl
 gives p (bodies.PolicyRestart handle) n = replied _ _ _ (looked_up (loaded p.sessions handle) _ (omega arith, omega arith)) refl
 gives p (bodies.PolicyGetDigest handle) n = in_policy _ p handle _ (λ s. answers refl)
-gives p (bodies.NvDefineSpace auth public) n = replied _ _ _ (define_checked (counter_in p.nv.counters public.index) (length p.nv.counters) auth public) refl
+gives p (bodies.NvDefineSpace asked) n =
+    replied _ _ _ (define_checked (counter_in p.nv.counters asked.public.index) (length p.nv.counters) asked.auth asked.public) refl
 gives p (bodies.NvUndefineSpace index) n = replied _ _ _ (looked_up (counter_in p.nv.counters index) _ (omega arith, omega arith)) refl
 gives p (bodies.NvIncrement by index) n = replied _ _ _ (increment_checked p.nv.greatest (counter_in p.nv.counters index) by index) refl
-gives p (bodies.NvRead by index size offset) n =
-    behind _ (read_counter (counter_in p.nv.counters index) by index size offset) _ (read_checked (counter_in p.nv.counters index) by index size offset)
+gives p (bodies.NvRead by index asked) n =
+    behind _ (read_counter (counter_in p.nv.counters index) by index asked.size asked.offset) _
+    (read_checked (counter_in p.nv.counters index) by index asked.size asked.offset)
     (λ _. answers refl)
 gives p (bodies.NvReadPublic index) n =
     behind _ (defined_counter (counter_in p.nv.counters index)) _ (looked_up (counter_in p.nv.counters index) _ (omega arith, omega arith)) (λ _. answers refl)

@@ -96,7 +96,8 @@ was_checked there count auth public u e =
     }
 
 fair_defined : (nv : NvMemory) (auth : List ℕ) (public : NvPublic) → IsFair nv
-    → Checked (counter_in nv.counters public.index) (length nv.counters) auth public → IsFair (nv_by (bodies.NvDefineSpace auth public) nv)
+    → Checked (counter_in nv.counters public.index) (length nv.counters) auth public
+    → IsFair (nv_by (bodies.NvDefineSpace (record { auth = auth; public = public })) nv)
 fair_defined nv auth public f k = record {
   few = omega (arith, length-append nv.counters (defined auth public ∷ []), k.room);
   counters = checked_defined nv.greatest nv.counters (defined auth public) f.counters k.new refl;
@@ -154,11 +155,12 @@ fair_incremented nv by index f =
 -- ---- along a run
 
 fair_by : (p : Present) (body : CommandBody) (n : List ℕ) (reply : ReplyBody) → action p body n ≡ Ok reply → IsFair p.nv → IsFair (nv_by body p.nv)
-fair_by p (bodies.NvDefineSpace auth public) n reply e f =
+fair_by p (bodies.NvDefineSpace asked) n reply e f =
     let a =
-    bind_ok (check_define (counter_in p.nv.counters public.index) (length p.nv.counters) auth public)
+    bind_ok (check_define (counter_in p.nv.counters asked.public.index) (length p.nv.counters) asked.auth asked.public)
     (λ _. let r : Result ReplyBody ℕ = Ok replies.NvDefineSpace in r) reply e in
-    fair_defined p.nv auth public f (was_checked (counter_in p.nv.counters public.index) (length p.nv.counters) auth public a.0 a.1)
+    fair_defined p.nv asked.auth asked.public f
+    (was_checked (counter_in p.nv.counters asked.public.index) (length p.nv.counters) asked.auth asked.public a.0 a.1)
 fair_by p (bodies.NvUndefineSpace index) n reply e f = fair_without p.nv index f
 fair_by p (bodies.NvIncrement by index) n reply e f = fair_incremented p.nv by index f
 fair_by p _ n reply e f = f

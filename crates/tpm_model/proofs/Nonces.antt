@@ -94,7 +94,7 @@ fresh S o k (Cycled ∷ es) h f l = fresh S o k es (PowerCycle ∷ h) (λ p. abs
 -- ---- Each live session was started with a nonce of enough bytes, and not too many.
 
 abbrev pub HasLength : StartAuth → Type 0
-HasLength q = (least_nonce ≤ length q.nonce_caller) × (length q.nonce_caller ≤ most_nonce)
+HasLength q = (least_nonce ≤ length q.params.nonce_caller) × (length q.params.nonce_caller ≤ most_nonce)
 
 abbrev HasStart : Option Start → Type 0
 HasStart None = ⊥
@@ -129,9 +129,11 @@ start_by : (o : Origin) (h : History) (k : ℕ) (body : CommandBody) (n : List �
     → action (present o h) body n ≡ Ok reply → begun k body reply ≡ Some q → HasLength q
 start_by o h k (bodies.StartAuthSession s) n reply q e b =
     let f =
-    bind_ok (refuse (nat_lt (length s.nonce_caller) 16 || nat_lt (digest_len s.auth_hash) (length s.nonce_caller)) (rc_size + of_parameter 1)) _ reply e in
-    let g = bounds (length s.nonce_caller) (digest_len s.auth_hash) (rc_size + of_parameter 1) f.1 in
-    subst HasLength (begun_same k s q reply b) (g.0, omega (arith, g.1, digest_most s.auth_hash))
+    bind_ok
+    (refuse (nat_lt (length s.params.nonce_caller) 16 || nat_lt (digest_len s.params.auth_hash) (length s.params.nonce_caller)) (rc_size + of_parameter 1))
+    _ reply e in
+    let g = bounds (length s.params.nonce_caller) (digest_len s.params.auth_hash) (rc_size + of_parameter 1) f.1 in
+    subst HasLength (begun_same k s q reply b) (g.0, omega (arith, g.1, digest_most s.params.auth_hash))
 start_by o h k _ n reply q e b = absurd (let z : ⊥ = cc in z)
 
 sound_along : (o : Origin) (k : ℕ) (es : List Stimulus) → IsSound k (after o [] es)

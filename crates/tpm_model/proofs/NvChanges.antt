@@ -74,7 +74,7 @@ refused_told command response code is some =
 -- ---- what commands do
 
 left_alone : (body : CommandBody) (nv : NvMemory) → writes_nv (code_for body) ≡ false → nv_by body nv ≡ nv
-left_alone (bodies.NvDefineSpace auth public) nv e = absurd (let z : ⊥ = cc in z)
+left_alone (bodies.NvDefineSpace asked) nv e = absurd (let z : ⊥ = cc in z)
 left_alone (bodies.NvUndefineSpace index) nv e = absurd (let z : ⊥ = cc in z)
 left_alone (bodies.NvIncrement by index) nv e = absurd (let z : ⊥ = cc in z)
 left_alone _ nv e = refl
@@ -85,7 +85,7 @@ not_next most None e = cc
 not_next most (Some v) e = let k : v + 1 ≡ v = cc in omega (arith, k)
 
 -- One counter more.
-not_defined : (auth : List ℕ) (public : NvPublic) (nv : NvMemory) → nv_by (bodies.NvDefineSpace auth public) nv ≡ nv → ⊥
+not_defined : (auth : List ℕ) (public : NvPublic) (nv : NvMemory) → nv_by (bodies.NvDefineSpace (record { auth = auth; public = public })) nv ≡ nv → ⊥
 not_defined auth public nv e =
     let k : length (nv.counters ++ defined auth public ∷ []) ≡ length nv.counters = ap (λ (m : NvMemory). length m.counters) e in
     omega (arith, k, length-append nv.counters (defined auth public ∷ []))
@@ -134,7 +134,7 @@ was_defined there reply e =
 
 changed : (p : Present) (body : CommandBody) (n : List ℕ) (reply : ReplyBody) → action p body n ≡ Ok reply → writes_nv (code_for body) ≡ true
     → nv_by body p.nv ≡ p.nv → ⊥
-changed p (bodies.NvDefineSpace auth public) n reply act w = not_defined auth public p.nv
+changed p (bodies.NvDefineSpace asked) n reply act w = not_defined asked.auth asked.public p.nv
 changed p (bodies.NvUndefineSpace index) n reply act w =
     let c = was_defined (counter_in p.nv.counters index) reply act in
     not_undefined index p.nv c.0 c.1

@@ -232,7 +232,7 @@ alike o p es gs bytes other n m a v w one_text =
       first = x.live;
       second = y.live;
       front =
-          same_front (length x.start.request.nonce_caller) (length y.start.request.nonce_caller) (last_nonce k h) (last_nonce k j)
+          same_front (length x.start.request.params.nonce_caller) (length y.start.request.params.nonce_caller) (last_nonce k h) (last_nonce k j)
           (has_length o es a.session s x).0 (has_length p gs a.session t y).0
           (sym (ap (λ (s : Session). s.nonce) x.is) ∙ older ∙ ap (λ (s : Session). s.nonce) y.is);
     }

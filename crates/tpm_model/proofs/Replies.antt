@@ -24,6 +24,7 @@ use Rattle.tpm_types.specs.Tpma.{session_attrs, is_session_attrs, owner_reads}
 use Rattle.tpm_types.specs.Tpmt.{digest_value}
 use Rattle.tpm_types.specs.Tpms.{auth_response}
 use Rattle.tpm_commands.specs.declared.command.CommandBody.{CommandBody}
+use Rattle.tpm_commands.specs.declared.commands.nv.NvRead.{NvRead}
 use Rattle.tpm_commands.specs.declared.response.ReplyBody.{ReplyBody}
 use Rattle.tpm_commands.specs.Handles.{needs_authorization}
 use Rattle.tpm_commands.specs.Replies.{code_for_reply, reply_handles, reply_handles_of, parameters_of_reply}
@@ -78,9 +79,9 @@ read_short there by i size offset bytes e =
     let same = ok_is (take size (drop offset (to_be_bytes w64 c.0))) bytes d.2 in
     subst (λ (l : List ℕ). length l ≤ 8) same (omega (arith, length-take size (drop offset (to_be_bytes w64 c.0)), length-drop offset (to_be_bytes w64 c.0)))
 
-reply_read : (by : NvAuthHandle) (i size offset : ℕ) (bytes : List ℕ) → length bytes ≤ 8 → IsReply (bodies.NvRead by i size offset) (replies.NvRead bytes)
+reply_read : (by : NvAuthHandle) (i : ℕ) (asked : NvRead) (bytes : List ℕ) → length bytes ≤ 8 → IsReply (bodies.NvRead by i asked) (replies.NvRead bytes)
 unfolding nv_read_reply
-reply_read by i size offset bytes le = record {
+reply_read by i asked bytes le = record {
   code = refl;
   handles = λ left. refl;
   params = λ left. (fits_bytes 8 left bytes (omega arith) le, refl);
@@ -133,8 +134,8 @@ own_reply p (bodies.PcrEvent q event) n r needs e = subst (IsReply (bodies.PcrEv
 own_reply p (bodies.PcrReset q) n r needs e =
     subst (IsReply (bodies.PcrReset q)) (replied_by _ _ r e)
     (record { code = refl; handles = λ left. refl; params = λ left. refl; short = omega arith; none = refl })
-own_reply p (bodies.NvDefineSpace auth public) n r needs e =
-    subst (IsReply (bodies.NvDefineSpace auth public)) (replied_by _ _ r e)
+own_reply p (bodies.NvDefineSpace asked) n r needs e =
+    subst (IsReply (bodies.NvDefineSpace asked)) (replied_by _ _ r e)
     (record { code = refl; handles = λ left. refl; params = λ left. refl; short = omega arith; none = refl })
 own_reply p (bodies.NvUndefineSpace index) n r needs e =
     subst (IsReply (bodies.NvUndefineSpace index)) (replied_by _ _ r e)
@@ -142,10 +143,10 @@ own_reply p (bodies.NvUndefineSpace index) n r needs e =
 own_reply p (bodies.NvIncrement by index) n r needs e =
     subst (IsReply (bodies.NvIncrement by index)) (replied_by _ _ r e)
     (record { code = refl; handles = λ left. refl; params = λ left. refl; short = omega arith; none = refl })
-own_reply p (bodies.NvRead by index size offset) n r needs e =
-    let b = bind_ok (read_counter (counter_in p.nv.counters index) by index size offset) _ r e in
-    subst (IsReply (bodies.NvRead by index size offset)) (ok_is (replies.NvRead b.0) r b.2)
-    (reply_read by index size offset b.0 (read_short (counter_in p.nv.counters index) by index size offset b.0 b.1))
+own_reply p (bodies.NvRead by index asked) n r needs e =
+    let b = bind_ok (read_counter (counter_in p.nv.counters index) by index asked.size asked.offset) _ r e in
+    subst (IsReply (bodies.NvRead by index asked)) (ok_is (replies.NvRead b.0) r b.2)
+    (reply_read by index asked b.0 (read_short (counter_in p.nv.counters index) by index asked.size asked.offset b.0 b.1))
 own_reply p _ n r needs e = absurd (let z : ⊥ = cc in z)
 
 -- ---- the session

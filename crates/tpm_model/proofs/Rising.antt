@@ -98,7 +98,7 @@ abbrev pub HoldsOf : (ℕ → Option ℕ → Type 0) → ℕ → NvMemory → Ty
 HoldsOf P i nv = P nv.greatest (value_in nv.counters i)
 
 kept_by : (P : ℕ → Option ℕ → Type 0) → IsKept P → (i : ℕ) (body : CommandBody) (nv : NvMemory) → HoldsOf P i nv → HoldsOf P i (nv_by body nv)
-kept_by P k i (bodies.NvDefineSpace auth public) nv f = subst (P nv.greatest) (sym (value_defined auth public nv.counters i)) f
+kept_by P k i (bodies.NvDefineSpace asked) nv f = subst (P nv.greatest) (sym (value_defined asked.auth asked.public nv.counters i)) f
 kept_by P k i (bodies.NvUndefineSpace index) nv f = subst (P nv.greatest) (sym (value_without index nv.counters i)) (go (index == i))
   where
     go : (b : Bool) → P nv.greatest (if b then None else value_in nv.counters i)

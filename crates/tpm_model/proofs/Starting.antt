@@ -63,21 +63,22 @@ slot_by false = each_slot (λ i. IsSlot (slot_of (0x03000000 + i))) (inl refl) (
 
 -- what an accepted start has passed
 record Answered (q : StartAuth) (n : List ℕ) (r : StartReply) : Type 0 where
-  least : 16 ≤ length q.nonce_caller
-  most : length q.nonce_caller ≤ digest_len q.auth_hash
+  least : 16 ≤ length q.params.nonce_caller
+  most : length q.params.nonce_caller ≤ digest_len q.params.auth_hash
   slot : ℕ
   free : IsSlot slot
-  is : r ≡ record { session = handle_for q.session_type slot; nonce_tpm = nonce_from q n }
+  is : r ≡ record { session = handle_for q.params.session_type slot; nonce_tpm = nonce_from q n }
 
 answered_start : (sessions : List (Option Session)) (q : StartAuth) (n : List ℕ) (r : StartReply) → start_session sessions q n ≡ Ok (replies.StartAuthSession r)
     → Answered q n r
 answered_start sessions q n r e =
     let a =
-    bind_ok (refuse (nat_lt (length q.nonce_caller) 16 || nat_lt (digest_len q.auth_hash) (length q.nonce_caller)) (rc_size + of_parameter 1)) _
+    bind_ok
+    (refuse (nat_lt (length q.params.nonce_caller) 16 || nat_lt (digest_len q.params.auth_hash) (length q.params.nonce_caller)) (rc_size + of_parameter 1)) _
     (start_reply r) e in
     let b = bind_ok (ok_or (free_slot sessions) rc_session_memory) _ (start_reply r) a.2 in
-    let both = bounds (length q.nonce_caller) (digest_len q.auth_hash) (rc_size + of_parameter 1) a.1 in
-    let made : StartReply = record { session = handle_for q.session_type b.0; nonce_tpm = nonce_from q n } in
+    let both = bounds (length q.params.nonce_caller) (digest_len q.params.auth_hash) (rc_size + of_parameter 1) a.1 in
+    let made : StartReply = record { session = handle_for q.params.session_type b.0; nonce_tpm = nonce_from q n } in
     record {
       least = both.0;
       most = both.1;
@@ -105,17 +106,22 @@ starts o h bytes n d q r auth e body reply whole same =
     let g : History = Accepted d.command d.reply n ∷ h in
     let k = slot_of r.session in
     let tpm : r.nonce_tpm ≡ nonce_from q n = ap (λ (z : StartReply). z.nonce_tpm) x.is in
-    let long : length r.nonce_tpm ≡ length q.nonce_caller =
-    omega (arith, ap length tpm, length-take (length q.nonce_caller) n, whole, x.most, digest_most q.auth_hash) in
+    let long : length r.nonce_tpm ≡ length q.params.nonce_caller =
+    omega (arith, ap length tpm, length-take (length q.params.nonce_caller) n, whole, x.most, digest_most q.params.auth_hash) in
     let fit : nonces_fit q r ≡ true =
     rw (
-      eq-eqb (length r.nonce_tpm) (length q.nonce_caller) long,
-      le-leb 16 (length q.nonce_caller) x.least,
-      le-leb (length q.nonce_caller) (digest_len q.auth_hash) x.most,
+      eq-eqb (length r.nonce_tpm) (length q.params.nonce_caller) long,
+      le-leb 16 (length q.params.nonce_caller) x.least,
+      le-leb (length q.params.nonce_caller) (digest_len q.params.auth_hash) x.most,
     )
     refl in
     let c : CallerSession =
-    record { handle = r.session; hash = q.auth_hash; key = session_key q.auth_hash (bound_to q.bind auth) r.nonce_tpm q.nonce_caller; nonce = r.nonce_tpm } in
+    record {
+      handle = r.session;
+      hash = q.params.auth_hash;
+      key = session_key q.params.auth_hash (bound_to q.bind auth) r.nonce_tpm q.params.nonce_caller;
+      nonce = r.nonce_tpm;
+    } in
     let by : begun k d.command.body d.reply.body ≡ Some q =
     ap (λ b. begun k b d.reply.body) body ∙ ap (begun k (bodies.StartAuthSession q)) reply
     ∙ ap (λ (b : Bool). if b then some q else None) (let it : (slot_of r.session == slot_of r.session) ≡ true = grind (arith, nat_tests) in it) in
@@ -123,8 +129,8 @@ starts o h bytes n d q r auth e body reply whole same =
     let z = as_session o n (assertions_of k g) start in
     let there : session_at o g k ≡ Some z = rw by refl in
     let kind : is_handle_of r.session z ≡ true =
-    subst (λ (t : StartReply). is_handle_of t.session z ≡ true) (sym x.is) (kind_by (is_hmac q.session_type) x.slot x.free) in
-    let slot : IsSlot k = subst (λ (t : StartReply). IsSlot (slot_of t.session)) (sym x.is) (slot_by (is_hmac q.session_type) x.slot x.free) in
+    subst (λ (t : StartReply). is_handle_of t.session z ≡ true) (sym x.is) (kind_by (is_hmac q.params.session_type) x.slot x.free) in
+    let slot : IsSlot k = subst (λ (t : StartReply). IsSlot (slot_of t.session)) (sym x.is) (slot_by (is_hmac q.params.session_type) x.slot x.free) in
     let load : loaded (sessions_at o g) r.session ≡ Some z =
     ap (if_of_kind r.session) (in_slot o g k slot ∙ there) ∙ ap (λ b. if b then some z else None) kind in
     let step : InStep o g c = (
@@ -133,8 +139,8 @@ starts o h bytes n d q r auth e body reply whole same =
       record {
         hash = refl;
         key =
-            one_key o q.auth_hash q.bind auth (nonce_from q n) q.nonce_caller same
-            ∙ ap (λ (t : List ℕ). session_key q.auth_hash (bound_to q.bind auth) t q.nonce_caller) (sym tpm);
+            one_key o q.params.auth_hash q.bind auth (nonce_from q n) q.params.nonce_caller same
+            ∙ ap (λ (t : List ℕ). session_key q.params.auth_hash (bound_to q.bind auth) t q.params.nonce_caller) (sym tpm);
         nonce = sym tpm;
         length = sym long;
       },

@@ -70,7 +70,7 @@ still o h c y d r n a is agrees session whole short needs one handle keep =
     let kind : is_handle_of c.handle z ≡ true = subst (λ s. is_handle_of c.handle s ≡ true) x.is x.kind in
     let load : loaded (sessions_at o g) c.handle ≡ Some z =
     ap (if_of_kind c.handle) (in_slot o g k x.slot ∙ there) ∙ ap (λ b. if b then some z else None) kind in
-    let long : length x.start.request.nonce_caller ≡ length c.nonce = sym (ap (λ (s : Session). s.nonce_length) x.is) ∙ agrees.length in (
+    let long : length x.start.request.params.nonce_caller ≡ length c.nonce = sym (ap (λ (s : Session). s.nonce_length) x.is) ∙ agrees.length in (
       z,
       load,
       record {

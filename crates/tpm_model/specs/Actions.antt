@@ -40,10 +40,12 @@ check_startup State = Err (rc_value + of_parameter 1)
 -- A nonce has 16 bytes at least, and no more than a digest (Part 3, 11.1).
 abbrev pub start_session : List (Option Session) → StartAuth → List ℕ → Result ReplyBody ℕ
 start_session sessions s nonce = do
-  _ ← refuse (nat_lt (length s.nonce_caller) 16 || nat_lt (digest_len s.auth_hash) (length s.nonce_caller))
+  _ ← refuse (nat_lt (length s.params.nonce_caller) 16
+      || nat_lt (digest_len s.params.auth_hash) (length s.params.nonce_caller))
       (rc_size + of_parameter 1)
   k ← ok_or (free_slot sessions) rc_session_memory
-  Ok (replies.StartAuthSession (record { session = handle_for s.session_type k; nonce_tpm = nonce_from s nonce }))
+  Ok (replies.StartAuthSession
+      (record { session = handle_for s.params.session_type k; nonce_tpm = nonce_from s nonce }))
 
 abbrev pub check_flush : Option Session → Result (Unit {0}) ℕ
 check_flush s = refuse (is_none s) (rc_handle + of_parameter 1)
@@ -149,10 +151,11 @@ action p (bodies.StartAuthSession start) nonce = start_session p.sessions start 
 -- 28.4, TPM2_FlushContext
 action p (bodies.FlushContext handle) nonce = then_reply (check_flush (loaded p.sessions handle)) replies.FlushContext
 -- 23.7, TPM2_PolicyPCR
-action p (bodies.PolicyPcr handle pcr_digest sels) nonce = do
+action p (bodies.PolicyPcr handle asked) nonce = do
   s ← policy_session (loaded p.sessions handle)
   then_reply
-      (check_policy_pcr s (composite s.hash (value_in p.registers.banks) sels) p.registers.update_counter pcr_digest)
+      (check_policy_pcr s (composite s.hash (value_in p.registers.banks) asked.selections)
+      p.registers.update_counter asked.pcr_digest)
       replies.PolicyPcr
 -- 23.6, TPM2_PolicyOR
 action p (bodies.PolicyOr handle digests) nonce = do
@@ -173,8 +176,9 @@ action p (bodies.PolicyGetDigest handle) nonce = do
   s ← policy_session (loaded p.sessions handle)
   Ok (replies.PolicyGetDigest s.policy.digest)
 -- 31.3, TPM2_NV_DefineSpace
-action p (bodies.NvDefineSpace auth public) nonce =
-    then_reply (check_define (counter_in p.nv.counters public.index) (length p.nv.counters) auth public)
+action p (bodies.NvDefineSpace asked) nonce =
+    then_reply
+    (check_define (counter_in p.nv.counters asked.public.index) (length p.nv.counters) asked.auth asked.public)
     replies.NvDefineSpace
 -- 31.4, TPM2_NV_UndefineSpace
 action p (bodies.NvUndefineSpace index) nonce =
@@ -183,8 +187,8 @@ action p (bodies.NvUndefineSpace index) nonce =
 action p (bodies.NvIncrement by index) nonce =
     then_reply (increment p.nv.greatest (counter_in p.nv.counters index) by index) replies.NvIncrement
 -- 31.13, TPM2_NV_Read
-action p (bodies.NvRead by index size offset) nonce = do
-  bytes ← read_counter (counter_in p.nv.counters index) by index size offset
+action p (bodies.NvRead by index asked) nonce = do
+  bytes ← read_counter (counter_in p.nv.counters index) by index asked.size asked.offset
   Ok (replies.NvRead bytes)
 -- 31.6, TPM2_NV_ReadPublic
 action p (bodies.NvReadPublic index) nonce = do

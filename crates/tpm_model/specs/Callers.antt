@@ -32,8 +32,8 @@ use Rattle.tpm_model.specs.InStep.{CallerSession}
 -- Both nonces have one length: 16 bytes at least, and no more than a digest.
 abbrev pub nonces_fit : StartAuth → StartReply → Bool
 nonces_fit q r =
-    length r.nonce_tpm == length q.nonce_caller && nat_le 16 (length q.nonce_caller)
-    && nat_le (length q.nonce_caller) (digest_len q.auth_hash)
+    length r.nonce_tpm == length q.params.nonce_caller && nat_le 16 (length q.params.nonce_caller)
+    && nat_le (length q.params.nonce_caller) (digest_len q.params.auth_hash)
 
 -- the authValue of what it is bound to, if it is bound
 abbrev pub bound_to : BindHandle → List ℕ → Option (List ℕ)
@@ -44,8 +44,8 @@ bound_to binds.Null bind_auth = None
 abbrev pub started_with : StartAuth → StartReply → (bind_auth : List ℕ) → Option CallerSession
 started_with q r bind_auth = if nonces_fit q r then Some (record {
   handle = r.session;
-  hash = q.auth_hash;
-  key = session_key q.auth_hash (bound_to q.bind bind_auth) r.nonce_tpm q.nonce_caller;
+  hash = q.params.auth_hash;
+  key = session_key q.params.auth_hash (bound_to q.bind bind_auth) r.nonce_tpm q.params.nonce_caller;
   nonce = r.nonce_tpm;
 }) else None
 

@@ -56,7 +56,8 @@ defined auth public = record { public = public; auth = trim auth; value = None }
 
 -- what an accepted command makes of it
 abbrev pub nv_by : CommandBody → NvMemory → NvMemory
-nv_by (bodies.NvDefineSpace auth public) nv = record nv { counters = nv.counters ++ defined auth public ∷ [] }
+nv_by (bodies.NvDefineSpace asked) nv =
+    record nv { counters = nv.counters ++ defined asked.auth asked.public ∷ [] }
 nv_by (bodies.NvUndefineSpace index) nv = record nv { counters = without index nv.counters }
 nv_by (bodies.NvIncrement by index) nv = record {
   counters = with_increment index nv.greatest nv.counters;

@@ -121,12 +121,12 @@ pcr_assertion now _ alg pcr_digest sels =
 abbrev pub pcr_asserted : Registers → Option Start → List ℕ → List Selection → List Assertion → List Assertion
 pcr_asserted now None pcr_digest sels old = old
 pcr_asserted now (Some start) pcr_digest sels old =
-    pcr_assertion now start.request.session_type start.request.auth_hash pcr_digest sels ∷ old
+    pcr_assertion now start.request.params.session_type start.request.params.auth_hash pcr_digest sels ∷ old
 
 -- what the slot's session asserts after a policy command on it, or another command
 abbrev pub asserted_by : ℕ → CommandBody → Registers → Option Start → List Assertion → List Assertion
-asserted_by k (bodies.PolicyPcr handle pcr_digest sels) now start old =
-    if slot_of handle == k then pcr_asserted now start pcr_digest sels old else old
+asserted_by k (bodies.PolicyPcr handle asked) now start old =
+    if slot_of handle == k then pcr_asserted now start asked.pcr_digest asked.selections old else old
 asserted_by k (bodies.PolicyOr handle digests) now start old =
     if slot_of handle == k then OrAsserted digests ∷ old else old
 asserted_by k (bodies.PolicyCommandCode handle code) now start old =
@@ -168,21 +168,22 @@ bound_value o binds.Null = None
 
 -- the first bytes of a nonce that is handed in, as many as the session's nonces have
 abbrev pub nonce_from : StartAuth → List ℕ → List ℕ
-nonce_from start nonce = take (length start.nonce_caller) nonce
+nonce_from start nonce = take (length start.params.nonce_caller) nonce
 
 abbrev pub key_of : Origin → Start → List ℕ
 key_of o s =
-    session_key s.request.auth_hash (bound_value o s.request.bind) (nonce_from s.request s.nonce) s.request.nonce_caller
+    session_key s.request.params.auth_hash (bound_value o s.request.bind) (nonce_from s.request s.nonce)
+    s.request.params.nonce_caller
 
 abbrev pub as_session : Origin → (last : List ℕ) → List Assertion → Start → Session
 as_session o last made s = record {
-  session_type = s.request.session_type;
-  hash = s.request.auth_hash;
+  session_type = s.request.params.session_type;
+  hash = s.request.params.auth_hash;
   key = key_of o s;
   nonce = nonce_from s.request last;
-  nonce_length = length s.request.nonce_caller;
+  nonce_length = length s.request.params.nonce_caller;
   is_bound = is_owner_bind s.request.bind;
-  policy = policy_of s.request.auth_hash made;
+  policy = policy_of s.request.params.auth_hash made;
 }
 
 -- the session of a slot, where one lives

@@ -279,7 +279,8 @@ impl Counters {
             ≡ check_define (counter_in self.old.counters public.now.index)
             (length self.old.counters) auth.now public.now }
         ensures defined { OnOk result
-            (self.new ≡ nv_by (bodies.NvDefineSpace auth.now public.now) self.old) }
+            (self.new ≡ nv_by
+            (bodies.NvDefineSpace (record { auth = auth.now; public = public.now })) self.old) }
         ensures refused { OnErr result (self.new ≡ self.old) }
     {
         let auth = trim(auth);

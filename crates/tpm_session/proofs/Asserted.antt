@@ -96,7 +96,7 @@ pcr_asserted_more : (o : Origin) (last : List ℕ) (lives : Bool) (start : Optio
 pcr_asserted_more o last false start made now pcr_digest selections held e = absurd (none-some held e)
 pcr_asserted_more o last true None made now pcr_digest selections held e = absurd (none-some held e)
 pcr_asserted_more o last true (Some s) made now pcr_digest selections held e =
-    asserted_more o last true (Some s) made (pcr_assertion now s.request.session_type s.request.auth_hash pcr_digest selections)
+    asserted_more o last true (Some s) made (pcr_assertion now s.request.params.session_type s.request.params.auth_hash pcr_digest selections)
     ∙ ap (λ (x : Session). option_map (asserting (pcr_assertion now x.session_type x.hash pcr_digest selections)) (Some (as_session o last made s)))
     (same_Some (as_session o last made s) held e)
 
@@ -190,7 +190,8 @@ pub asserts_registers : (o : Origin) (h : History) (c : Command) (r : Reply) (no
     (now : Registers) (held : Session) (old new : List (Option Session)) →
     new ≡ with_slot (slot_of handle) (option_map (asserting (pcr_assertion now held.session_type held.hash pcr_digest selections))) old →
     loaded old handle ≡ Some held →
-    c.body ≡ bodies.PolicyPcr handle pcr_digest selections → c.auths.items ≡ [] → now ≡ registers_after (changes h) → old ≡ sessions_at o h →
+    c.body ≡ bodies.PolicyPcr handle (record { pcr_digest = pcr_digest; selections = selections }) →
+    c.auths.items ≡ [] → now ≡ registers_after (changes h) → old ≡ sessions_at o h →
     new ≡ sessions_at o (Accepted c r nonce ∷ h)
 asserts_registers o h c r nonce handle pcr_digest selections now held old new is found same auths are at =
     let a = pcr_assertion now held.session_type held.hash pcr_digest selections in
@@ -201,10 +202,12 @@ asserts_registers o h c r nonce handle pcr_digest selections now held old new is
     session_at o (Accepted c r nonce ∷ h) k ≡ (if t then option_map (asserting a) (session_at o h k) else session_at o h k)) [
       | true ↦ λ t.
           let here : session_at o h k ≡ Some held = rw (← same_slot (slot_of handle) k t) there in
-          after_policy o h c r nonce k (bodies.PolicyPcr handle pcr_digest selections)
+          after_policy o h c r nonce k (bodies.PolicyPcr handle (record { pcr_digest = pcr_digest; selections = selections }))
           (pcr_asserted now (start_of k h) pcr_digest selections (assertions_of k h)) same auths refl refl (rw (t, ← are) refl)
           ∙ pcr_asserted_more o (last_nonce k h) (lives k h) (start_of k h) (assertions_of k h) now pcr_digest selections held here
-      | false ↦ λ t. after_policy o h c r nonce k (bodies.PolicyPcr handle pcr_digest selections) (assertions_of k h) same auths refl refl (rw t refl)
+      | false ↦ λ t.
+          after_policy o h c r nonce k (bodies.PolicyPcr handle (record { pcr_digest = pcr_digest; selections = selections }))
+          (assertions_of k h) same auths refl refl (rw t refl)
     ] refl) at
 
 -- ---- the policy digest

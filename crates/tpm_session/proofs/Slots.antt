@@ -86,7 +86,7 @@ stays_out : (k : ℕ) (body : CommandBody) (reply : ReplyBody) → needs_authori
 stays_out k (bodies.Startup kind) reply e = absurd (both_ways false refl e)
 stays_out k (bodies.StartAuthSession start) reply e = absurd (both_ways false refl e)
 stays_out k (bodies.FlushContext handle) reply e = absurd (both_ways false refl e)
-stays_out k (bodies.PolicyPcr handle d sels) reply e = absurd (both_ways false refl e)
+stays_out k (bodies.PolicyPcr handle asked) reply e = absurd (both_ways false refl e)
 stays_out k (bodies.PolicyOr handle ds) reply e = absurd (both_ways false refl e)
 stays_out k (bodies.PolicyCommandCode handle code) reply e = absurd (both_ways false refl e)
 stays_out k (bodies.PolicyAuthValue handle) reply e = absurd (both_ways false refl e)

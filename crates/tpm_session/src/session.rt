@@ -93,7 +93,7 @@ impl Session {
         nonce: &[u8; NONCE_BYTES],
         hashed: &mut SessionKey,
     ) -> Self
-        requires { length start.now.nonce_caller ≤ 48 }
+        requires { length start.now.params.nonce_caller ≤ 48 }
         ensures { (o : Origin) →
             (start.now.bind ≡ binds.Owner → trim_of bind_auth.now ≡ trim_of o.owner) →
             result ≡ as_session o nonce.now [] (record { request = start.now; nonce = nonce.now }) }
@@ -101,20 +101,20 @@ impl Session {
         let nonce = first_of(start, nonce);
         let key = match start.bind {
             BindHandle::Owner => session_key(
-                start.auth_hash,
+                start.params.auth_hash,
                 bind_auth,
                 nonce.as_slice(),
-                start.nonce_caller.as_slice(),
+                start.params.nonce_caller.as_slice(),
             ),
             BindHandle::Null => Digest::default(),
         };
         let session = Session {
-            session_type: start.session_type,
-            hash: start.auth_hash,
+            session_type: start.params.session_type,
+            hash: start.params.auth_hash,
             is_bound: start.bind == BindHandle::Owner,
             key: Packed::new(key.as_slice()),
             nonce: Packed::new(nonce.as_slice()),
-            policy: Policy::new(start.auth_hash),
+            policy: Policy::new(start.params.auth_hash),
         };
         if session.is_bound {
             session.hash_key(hashed);
@@ -270,10 +270,10 @@ fn kind(session: SessionHandle) -> u32
 
 // The first bytes that are handed in, as many as the caller's nonce has.
 pub(crate) fn first_of(start: &StartAuth, nonce: &[u8; NONCE_BYTES]) -> Nonce
-    requires { length start.now.nonce_caller ≤ 48 }
+    requires { length start.now.params.nonce_caller ≤ 48 }
     ensures { result ≡ nonce_from start.now nonce.now }
 {
-    let len = start.nonce_caller.as_slice().len();
+    let len = start.params.nonce_caller.as_slice().len();
     match Nonce::new(&nonce[..len]) {
         Some(nonce) => nonce,
         None => unreachable!(),

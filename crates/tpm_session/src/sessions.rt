@@ -169,8 +169,8 @@ impl Sessions {
             self.new ≡ sessions_at o (Accepted c r nonce.now ∷ h)) }
         ensures refused { OnErr result (self.new ≡ self.old) }
     {
-        let len = start.nonce_caller.as_slice().len();
-        if len < LEAST_NONCE || len > start.auth_hash.digest_len() {
+        let len = start.params.nonce_caller.as_slice().len();
+        if len < LEAST_NONCE || len > start.params.auth_hash.digest_len() {
             return Err(SIZE + of_parameter(1));
         }
         let Some(slot) = lowest_free(&self.slots) else {
@@ -178,7 +178,7 @@ impl Sessions {
         };
         self.slots[slot] = Some(Session::started(start, bind_auth, nonce, &mut self.hashed));
         Ok(StartReply {
-            session: handle_for(start.session_type, slot),
+            session: handle_for(start.params.session_type, slot),
             nonce_tpm: first_of(start, nonce),
         })
     }
@@ -328,7 +328,8 @@ impl Sessions {
             registers.now.update_counter pcr_digest.now) }
         ensures asserted { OnOk result (
             (o : Origin) (h : History) (c : Command) (r : Reply) (nonce : List ℕ) →
-            c.body ≡ bodies.PolicyPcr session pcr_digest.now selections.now →
+            c.body ≡ bodies.PolicyPcr session
+            (record { pcr_digest = pcr_digest.now; selections = selections.now }) →
             c.auths.items ≡ [] →
             registers.now ≡ registers_after (changes h) →
             self.old ≡ sessions_at o h →

@@ -16,13 +16,12 @@ use Rattle.tpm_show.specs.Pieces.{Piece}
 
 -- the parts of each parameter of a command, where they are told
 abbrev pub command_insides : CommandBody → List (Option (List Piece))
-command_insides (bodies.NvDefineSpace auth public) = None ∷ Some (public_parts public) ∷ []
+command_insides (bodies.NvDefineSpace asked) = None ∷ Some (public_parts asked.public) ∷ []
 command_insides (bodies.PolicyOr session digests) = Some (digest_parts digests) ∷ []
 command_insides (bodies.StartAuthSession start) =
-    None ∷ None ∷ None ∷ Some (symmetric_parts start.symmetric) ∷ []
+    None ∷ None ∷ None ∷ Some (symmetric_parts start.params.symmetric) ∷ []
 command_insides (bodies.PcrRead selections) = Some (selection_parts selections) ∷ []
-command_insides (bodies.PolicyPcr session pcr_digest selections) =
-    None ∷ Some (selection_parts selections) ∷ []
+command_insides (bodies.PolicyPcr session asked) = None ∷ Some (selection_parts asked.selections) ∷ []
 command_insides (bodies.PcrExtend register digests) = Some (digest_value_parts digests) ∷ []
 command_insides _ = []
 

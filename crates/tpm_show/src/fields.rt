@@ -11,7 +11,7 @@ ghost use Rattle.tpm_show.specs.FieldText.{value_told};
 use crate::field::Field;
 use crate::field_text::tell_value;
 use crate::teller::Teller;
-use tpm_commands::{CommandBody, Event, ReplyBody, StartAuth};
+use tpm_commands::{CommandBody, Event, NvDefineSpace, NvRead, PolicyPcr, ReplyBody, StartParams};
 use tpm_output::text::Pushed;
 use tpm_types::EncryptedSalt;
 use tpm_wire::{Buffer, Wire, put_bytes};
@@ -49,7 +49,8 @@ pub(crate) fn tell_command_fields<T: Teller>(teller: &mut T, body: &CommandBody<
         (T.told teller.new ≡ T.told teller.old ++ flat_map T.marks (command_fields body.now)) }
 {
     match body {
-        CommandBody::NvDefineSpace { auth, public } => {
+        CommandBody::NvDefineSpace(params) => {
+            let NvDefineSpace { auth, public } = params;
             prove!(auth.len() + public.len() <= 4096);
             Field("  ", "auth", "TPM2B_AUTH").tell(teller, auth)?;
             Field("  ", "publicInfo", "TPM2B_NV_PUBLIC").tell_structure(teller, public)
@@ -58,7 +59,8 @@ pub(crate) fn tell_command_fields<T: Teller>(teller: &mut T, body: &CommandBody<
         CommandBody::Startup(startup_type) => {
             Field("  ", "startupType", "TPM_SU").tell(teller, startup_type)
         }
-        CommandBody::NvRead { size, offset, .. } => {
+        CommandBody::NvRead { params, .. } => {
+            let NvRead { size, offset } = params;
             Field("  ", "size", "UINT16").tell(teller, size)?;
             Field("  ", "offset", "UINT16").tell(teller, offset)
         }
@@ -74,13 +76,12 @@ pub(crate) fn tell_command_fields<T: Teller>(teller: &mut T, body: &CommandBody<
             Field("  ", "pHashList", "TPML_DIGEST").tell_structure(teller, digests)
         }
         CommandBody::StartAuthSession(start) => {
-            let StartAuth {
+            let StartParams {
                 nonce_caller,
                 session_type,
                 symmetric,
                 auth_hash,
-                ..
-            } = start;
+            } = &start.params;
             prove!(nonce_caller.len() + symmetric.len() + auth_hash.len() <= 4096);
             Field("  ", "nonceCaller", "TPM2B_NONCE").tell(teller, nonce_caller)?;
             Field("  ", "encryptedSalt", "TPM2B_ENCRYPTED_SECRET").tell(
@@ -95,11 +96,11 @@ pub(crate) fn tell_command_fields<T: Teller>(teller: &mut T, body: &CommandBody<
             prove!(selections.len() <= 4096);
             Field("  ", "pcrSelectionIn", "TPML_PCR_SELECTION").tell_structure(teller, selections)
         }
-        CommandBody::PolicyPcr {
-            pcr_digest,
-            selections,
-            ..
-        } => {
+        CommandBody::PolicyPcr { params, .. } => {
+            let PolicyPcr {
+                pcr_digest,
+                selections,
+            } = params;
             prove!(pcr_digest.len() + selections.len() <= 4096);
             Field("  ", "pcrDigest", "TPM2B_DIGEST").tell(teller, pcr_digest)?;
             Field("  ", "pcrs", "TPML_PCR_SELECTION").tell_structure(teller, selections)

@@ -4,8 +4,8 @@ use crate::tests::buffer_checks::{bytes, put, put_number};
 use std::process::Abort;
 use std::test::*;
 use tpm_buffer::{AuthRef, ReplyRef, areas, header, reply_areas};
-use tpm_commands::{Params, StartAuth, decode_params, decode_params_into, decode_start_into};
-use tpm_types::{Alg, BindHandle, CommandCode, Nonce, SessionType, SymDef};
+use tpm_commands::{Params, StartParams, decode_params, decode_params_into, decode_start_into};
+use tpm_types::{Alg, CommandCode, Nonce, SessionType, SymDef};
 use tpm_wire::{Buffer, Refusal};
 
 // NV_Read of the index 01800001 by the owner, with a password of one byte.
@@ -104,7 +104,7 @@ fn parameters_alone(rt: HostRuntime) {
     let mut params = Params::PcrReset;
     let _ = decode_params_into(CommandCode::NvRead, &[0, 8, 1, 2], &mut params);
     match params {
-        Params::NvRead { size, offset } => assert!(&rt; size == 8 && offset == 0x0102),
+        Params::NvRead(asked) => assert!(&rt; asked.size == 8 && asked.offset == 0x0102),
         _ => panic!(&rt; "no parameters of NV_Read"),
     }
     // Places are counted from the first byte of the parameters.
@@ -112,10 +112,9 @@ fn parameters_alone(rt: HostRuntime) {
     assert!(&rt; fault == Some(Refusal { code: 0x2DA, at: 2 }));
 }
 
-// What a session that is bound to the owner is started with, by the parameters alone, or their fault.
-fn start(rt: &impl Abort, text: &str) -> Result<StartAuth, Refusal> {
-    let mut start = StartAuth {
-        bind: BindHandle::Owner,
+// What a session is started with, by the parameters alone, or their fault.
+fn start(rt: &impl Abort, text: &str) -> Result<StartParams, Refusal> {
+    let mut start = StartParams {
         nonce_caller: Nonce::default(),
         session_type: SessionType::Hmac,
         symmetric: SymDef::Null,
@@ -130,7 +129,6 @@ fn parameters_of_a_start_alone(rt: HostRuntime) {
     let read = start(&rt, "0002 a1a2 0000 01 0010 000b")
         .ok()
         .expect(&rt, "parameters");
-    assert!(&rt; read.bind == BindHandle::Owner);
     assert!(&rt; read.nonce_caller.as_slice() == [0xA1, 0xA2].as_slice());
     assert!(&rt; read.session_type == SessionType::Policy && read.symmetric == SymDef::Null);
     assert!(&rt; read.auth_hash == Alg::Sha256);

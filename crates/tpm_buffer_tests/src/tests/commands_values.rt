@@ -51,17 +51,17 @@ fn each_command_has_its_handles_and_authorization(rt: HostRuntime) {
 // Values of a command, one after the other and without their sizes, of those commands that have several of one kind.
 fn put_values(rt: &impl Abort, all: &mut Buffer, body: &CommandBody<'_>) {
     match body {
-        CommandBody::NvDefineSpace { auth, public } => {
-            put(rt, all, auth.as_slice());
-            put(rt, all, public.policy.as_slice());
+        CommandBody::NvDefineSpace(asked) => {
+            put(rt, all, asked.auth.as_slice());
+            put(rt, all, asked.public.policy.as_slice());
         }
         CommandBody::NvIncrement { by, index } => {
             put_number(rt, all, by.number());
             put_number(rt, all, index.number());
         }
-        CommandBody::NvRead { size, offset, .. } => {
-            put(rt, all, &size.to_be_bytes());
-            put(rt, all, &offset.to_be_bytes());
+        CommandBody::NvRead { params, .. } => {
+            put(rt, all, &params.size.to_be_bytes());
+            put(rt, all, &params.offset.to_be_bytes());
         }
         CommandBody::PolicyCommandCode { session, code } => {
             put_number(rt, all, session.number());
@@ -74,22 +74,18 @@ fn put_values(rt: &impl Abort, all: &mut Buffer, body: &CommandBody<'_>) {
         }
         CommandBody::StartAuthSession(start) => {
             put_number(rt, all, start.bind.number());
-            put(rt, all, start.nonce_caller.as_slice());
-            put(rt, all, &[start.session_type.number()]);
-            match &start.symmetric {
+            put(rt, all, start.params.nonce_caller.as_slice());
+            put(rt, all, &[start.params.session_type.number()]);
+            match &start.params.symmetric {
                 SymDef::Null => {}
                 SymDef::Aes(bits) => put(rt, all, &bits.number().to_be_bytes()),
                 SymDef::Xor(hash) => put(rt, all, &hash.number().to_be_bytes()),
             }
-            put(rt, all, &start.auth_hash.number().to_be_bytes());
+            put(rt, all, &start.params.auth_hash.number().to_be_bytes());
         }
-        CommandBody::PolicyPcr {
-            pcr_digest,
-            selections,
-            ..
-        } => {
-            put(rt, all, pcr_digest.as_slice());
-            for selection in selections.as_slice() {
+        CommandBody::PolicyPcr { params, .. } => {
+            put(rt, all, params.pcr_digest.as_slice());
+            for selection in params.selections.as_slice() {
                 put(rt, all, &selection.hash.number().to_be_bytes());
                 put(rt, all, &selection.select);
             }

@@ -5,7 +5,7 @@ use arrayvec::ArrayVec;
 use std::process::Abort;
 use std::test::*;
 use tpm_caller::{Caller, Waiting};
-use tpm_commands::{CommandBody, Event};
+use tpm_commands::{CommandBody, Event, NvDefineSpace};
 use tpm_types::{
     Alg, AuthValue, Digest, DigestValues, HashedDigest, Name, Nonce, NvAttrs, NvAuthHandle,
     NvIndex, NvPublic, PcrIndex, PcrOrNull, RH_OWNER, name_of_handle,
@@ -91,7 +91,7 @@ pub fn define(rt: &impl Abort, caller: Caller, attributes: u32, auth: &[u8]) -> 
     let mut names = ArrayVec::new();
     names.push(name_of_handle(RH_OWNER));
     caller.seal(
-        CommandBody::NvDefineSpace {
+        CommandBody::NvDefineSpace(NvDefineSpace {
             auth: AuthValue::new(b"a\0").expect(rt, "a value"),
             public: NvPublic {
                 index: counter(rt),
@@ -100,7 +100,7 @@ pub fn define(rt: &impl Abort, caller: Caller, attributes: u32, auth: &[u8]) -> 
                 policy: Digest::default(),
                 data_size: 8,
             },
-        },
+        }),
         names,
         auth,
         nonce(rt, FIRST),

@@ -3,7 +3,7 @@
 use std::process::Abort;
 use std::test::*;
 use tpm_caller::Caller;
-use tpm_commands::{StartAuth, StartReply};
+use tpm_commands::{StartAuth, StartParams, StartReply};
 use tpm_types::{Alg, BindHandle, Nonce, SessionHandle, SessionType, SymDef};
 use tpm_wire::Buffer;
 
@@ -30,10 +30,12 @@ fn start(
 ) -> Option<Caller> {
     let request = StartAuth {
         bind,
-        nonce_caller: nonce(rt, nonce_caller),
-        session_type: SessionType::Hmac,
-        symmetric: SymDef::Null,
-        auth_hash: hash,
+        params: StartParams {
+            nonce_caller: nonce(rt, nonce_caller),
+            session_type: SessionType::Hmac,
+            symmetric: SymDef::Null,
+            auth_hash: hash,
+        },
     };
     let reply = StartReply {
         session: SessionHandle::from_number(handle).expect(rt, "a session"),

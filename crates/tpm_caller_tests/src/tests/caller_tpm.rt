@@ -6,7 +6,7 @@ use std::process::Abort;
 use std::test::*;
 use tpm_buffer::{decode_response, encode_command};
 use tpm_caller::Caller;
-use tpm_commands::{Command, CommandBody, ReplyBody, Response, StartAuth};
+use tpm_commands::{Command, CommandBody, ReplyBody, Response, StartAuth, StartParams};
 use tpm_device::{Device, ResponseBuffer};
 use tpm_types::{Alg, AuthValue, BindHandle, CommandCode, SessionType, SymDef};
 
@@ -37,10 +37,12 @@ pub struct Tpm {
 fn request(rt: &impl Abort, bind: BindHandle) -> StartAuth {
     StartAuth {
         bind,
-        nonce_caller: nonce(rt, "00000000000000000000000000000000"),
-        session_type: SessionType::Hmac,
-        symmetric: SymDef::Null,
-        auth_hash: Alg::Sha256,
+        params: StartParams {
+            nonce_caller: nonce(rt, "00000000000000000000000000000000"),
+            session_type: SessionType::Hmac,
+            symmetric: SymDef::Null,
+            auth_hash: Alg::Sha256,
+        },
     }
 }
 

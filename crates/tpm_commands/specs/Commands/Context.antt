@@ -4,9 +4,9 @@ use Rattle.tpm_wire.specs.Buffers.{Layout, numbered}
 use Rattle.tpm_wire.specs.ResponseCodes.{of_parameter}
 use Rattle.tpm_wire.specs.Layout.Form.{done, field}
 use Rattle.tpm_types.specs.Handles.{session}
-use Rattle.tpm_commands.specs.declared.command_parameters.Params.{Params}
+use Rattle.tpm_commands.specs.declared.command.Params.{Params}
 use Rattle.tpm_commands.specs.Row.{Row, named}
-use Rattle.tpm_commands.specs.declared.command_parameters.Params.TheVariants as params
+use Rattle.tpm_commands.specs.declared.command.Params.TheVariants as params
 use Rattle.tpm_commands.specs.declared.response.ReplyBody.TheVariants as replies
 
 -- ---- TPM2_FlushContext (28.4), whose handle is a parameter

@@ -9,10 +9,10 @@ use Rattle.tpm_types.specs.declared.tpms.NvPublic.{NvPublic}
 use Rattle.tpm_types.specs.Tpm2b.{auth_value, name}
 use Rattle.tpm_types.specs.Tpms.{nv_public}
 use Rattle.tpm_commands.specs.declared.command_handles.HandleKind.TheVariants.{Owner, Index, OwnerOrIndex}
-use Rattle.tpm_commands.specs.declared.command_parameters.Params.{Params}
+use Rattle.tpm_commands.specs.declared.command.Params.{Params}
 use Rattle.tpm_commands.specs.declared.response.ReplyBody.{ReplyBody}
 use Rattle.tpm_commands.specs.Row.{Row, named}
-use Rattle.tpm_commands.specs.declared.command_parameters.Params.TheVariants as params
+use Rattle.tpm_commands.specs.declared.command.Params.TheVariants as params
 use Rattle.tpm_commands.specs.declared.response.ReplyBody.TheVariants as replies
 
 abbrev pub no_public : NvPublic
@@ -21,18 +21,18 @@ no_public = record { index = 0x01000000; alg = Sha256; attrs = 0; policy = []; d
 -- ---- TPM2_NV_DefineSpace (31.3)
 
 abbrev pub auth_of : Params → List ℕ
-auth_of (params.NvDefineSpace auth public) = auth
+auth_of (params.NvDefineSpace p) = p.auth
 auth_of _ = []
 
 abbrev pub public_of : Params → NvPublic
-public_of (params.NvDefineSpace auth public) = public
+public_of (params.NvDefineSpace p) = p.public
 public_of _ = no_public
 
 unfoldable pub nv_define_space : Layout Params
 nv_define_space =
     field auth_of (numbered (of_parameter 1) auth_value) (λ auth.
     field public_of (numbered (of_parameter 2) nv_public) (λ public.
-    done (params.NvDefineSpace auth public)))
+    done (params.NvDefineSpace (record { auth = auth; public = public }))))
 
 abbrev pub nv_define_space_row : Row
 nv_define_space_row = record {
@@ -103,18 +103,18 @@ nv_increment_row = record {
 -- ---- TPM2_NV_Read (31.13)
 
 abbrev pub size_of : Params → ℕ
-size_of (params.NvRead size offset) = size
+size_of (params.NvRead p) = p.size
 size_of _ = 0
 
 abbrev pub offset_of : Params → ℕ
-offset_of (params.NvRead size offset) = offset
+offset_of (params.NvRead p) = p.offset
 offset_of _ = 0
 
 unfoldable pub nv_read : Layout Params
 nv_read =
     field size_of (numbered (of_parameter 1) (any_number 2)) (λ size.
     field offset_of (numbered (of_parameter 2) (any_number 2)) (λ offset.
-    done (params.NvRead size offset)))
+    done (params.NvRead (record { size = size; offset = offset }))))
 
 abbrev pub data_of : ReplyBody → List ℕ
 data_of (replies.NvRead bytes) = bytes

@@ -7,10 +7,10 @@ use Rattle.tpm_types.specs.declared.tpms.Selection.{Selection}
 use Rattle.tpm_types.specs.Tpm2b.{digest}
 use Rattle.tpm_types.specs.Tpml.{selections, or_digests}
 use Rattle.tpm_commands.specs.declared.command_handles.HandleKind.TheVariants.{Policy}
-use Rattle.tpm_commands.specs.declared.command_parameters.Params.{Params}
+use Rattle.tpm_commands.specs.declared.command.Params.{Params}
 use Rattle.tpm_commands.specs.declared.response.ReplyBody.{ReplyBody}
 use Rattle.tpm_commands.specs.Row.{Row, named}
-use Rattle.tpm_commands.specs.declared.command_parameters.Params.TheVariants as params
+use Rattle.tpm_commands.specs.declared.command.Params.TheVariants as params
 use Rattle.tpm_commands.specs.declared.response.ReplyBody.TheVariants as replies
 
 -- ---- TPM2_PolicyOR (23.6)
@@ -37,18 +37,18 @@ policy_or_row = record {
 -- ---- TPM2_PolicyPCR (23.7)
 
 abbrev pub digest_of : Params → List ℕ
-digest_of (params.PolicyPcr pcr_digest selected) = pcr_digest
+digest_of (params.PolicyPcr p) = p.pcr_digest
 digest_of _ = []
 
 abbrev pub policy_selections_of : Params → List Selection
-policy_selections_of (params.PolicyPcr pcr_digest selected) = selected
+policy_selections_of (params.PolicyPcr p) = p.selections
 policy_selections_of _ = []
 
 unfoldable pub policy_pcr : Layout Params
 policy_pcr =
     field digest_of (numbered (of_parameter 1) digest) (λ pcr_digest.
     field policy_selections_of (numbered (of_parameter 2) selections) (λ selected.
-    done (params.PolicyPcr pcr_digest selected)))
+    done (params.PolicyPcr (record { pcr_digest = pcr_digest; selections = selected }))))
 
 abbrev pub policy_pcr_row : Row
 policy_pcr_row = record {

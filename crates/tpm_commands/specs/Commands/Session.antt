@@ -16,28 +16,28 @@ use Rattle.tpm_types.specs.Tpm2b.{nonce, encrypted_salt}
 use Rattle.tpm_types.specs.Tpmt.{sym_def}
 use Rattle.tpm_types.specs.declared.tpmt.SymDef.TheVariants as symmetrics
 use Rattle.tpm_commands.specs.declared.command_handles.HandleKind.TheVariants.{Null, OwnerOrNull, Policy}
-use Rattle.tpm_commands.specs.declared.command_parameters.Params.{Params}
+use Rattle.tpm_commands.specs.declared.command.Params.{Params}
 use Rattle.tpm_commands.specs.declared.response.ReplyBody.{ReplyBody}
 use Rattle.tpm_commands.specs.Row.{Row, Field, named, first}
-use Rattle.tpm_commands.specs.declared.command_parameters.Params.TheVariants as params
+use Rattle.tpm_commands.specs.declared.command.Params.TheVariants as params
 use Rattle.tpm_commands.specs.declared.response.ReplyBody.TheVariants as replies
 
 -- ---- TPM2_StartAuthSession (11.1)
 
 abbrev pub nonce_of : Params → List ℕ
-nonce_of (params.StartAuthSession nonce_caller kind symmetric alg) = nonce_caller
+nonce_of (params.StartAuthSession p) = p.nonce_caller
 nonce_of _ = []
 
 abbrev pub session_type_of : Params → SessionType
-session_type_of (params.StartAuthSession nonce_caller kind symmetric alg) = kind
+session_type_of (params.StartAuthSession p) = p.session_type
 session_type_of _ = Hmac
 
 abbrev pub symmetric_of : Params → SymDef
-symmetric_of (params.StartAuthSession nonce_caller kind symmetric alg) = symmetric
+symmetric_of (params.StartAuthSession p) = p.symmetric
 symmetric_of _ = symmetrics.Null
 
 abbrev pub hash_of : Params → Alg
-hash_of (params.StartAuthSession nonce_caller kind symmetric alg) = alg
+hash_of (params.StartAuthSession p) = p.auth_hash
 hash_of _ = Sha256
 
 unfoldable pub start_auth_session : Layout Params
@@ -47,7 +47,12 @@ start_auth_session =
     field session_type_of (numbered (of_parameter 3) session_type) (λ kind.
     field symmetric_of (numbered (of_parameter 4) sym_def) (λ symmetric.
     field hash_of (numbered (of_parameter 5) hash) (λ alg.
-    done (params.StartAuthSession nonce_caller kind symmetric alg))))))
+    done (params.StartAuthSession (record {
+      nonce_caller = nonce_caller;
+      session_type = kind;
+      symmetric = symmetric;
+      auth_hash = alg;
+    })))))))
 
 -- the handle of its reply
 unfoldable pub session_handle : Layout (List ℕ)

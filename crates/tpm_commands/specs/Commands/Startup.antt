@@ -6,9 +6,9 @@ use Rattle.tpm_wire.specs.Layout.Form.{done, field}
 use Rattle.tpm_types.specs.declared.constants.StartupType.TheVariants.{Clear}
 use Rattle.tpm_types.specs.declared.constants.StartupType.{StartupType}
 use Rattle.tpm_types.specs.Constants.{startup_type}
-use Rattle.tpm_commands.specs.declared.command_parameters.Params.{Params}
+use Rattle.tpm_commands.specs.declared.command.Params.{Params}
 use Rattle.tpm_commands.specs.Row.{Row, named}
-use Rattle.tpm_commands.specs.declared.command_parameters.Params.TheVariants as params
+use Rattle.tpm_commands.specs.declared.command.Params.TheVariants as params
 use Rattle.tpm_commands.specs.declared.response.ReplyBody.TheVariants as replies
 
 -- ---- TPM2_Startup (9.3)

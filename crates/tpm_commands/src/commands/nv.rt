@@ -5,7 +5,7 @@ ghost use Rattle.tpm_wire.specs.Spelling.{spelling, Fits};
 ghost use Rattle.tpm_wire.specs.Buffers.{TakesNumbered};
 ghost use Rattle.tpm_commands.specs.Limits.{most_params, most_reply_params};
 ghost use Rattle.tpm_types.specs.declared.command_code.CommandCode.TheVariants as codes;
-ghost use Rattle.tpm_commands.specs.declared.command_parameters.Params.TheVariants as params;
+ghost use Rattle.tpm_commands.specs.declared.command.Params.TheVariants as params;
 ghost use Rattle.tpm_commands.specs.declared.response.ReplyBody.TheVariants as replies;
 ghost use Rattle.tpm_commands.specs.Parameters.{nv_define_space, nv_read};
 ghost use Rattle.tpm_commands.specs.Replies.{nv_read_reply, nv_read_public_reply, IsReplyTo};
@@ -24,64 +24,67 @@ pub(crate) const NV_DEFINE_SPACE: Row = Row {
     needs_authorization: true,
 };
 
-/// An area that another one is read in the place of.
-pub(crate) fn any_public() -> NvPublic {
-    match (NvIndex::from_number(0x01000000), NvAttrs::from_number(0)) {
-        (Some(index), Some(attrs)) => NvPublic {
-            index,
-            alg: Alg::default(),
-            attrs,
-            policy: Digest::default(),
-            data_size: 0,
-        },
-        _ => unreachable!(),
+/// The parameters of TPM2_NV_DefineSpace.
+#[derive(Drop)]
+pub struct NvDefineSpace {
+    pub auth: AuthValue,
+    pub public: NvPublic,
+}
+
+#[tactic(auto, unfolding(crate::specs::Parameters::nv_define_space))]
+impl NvDefineSpace {
+    // One that another is read in the place of.
+    pub(crate) fn any() -> Self {
+        match (NvIndex::from_number(0x01000000), NvAttrs::from_number(0)) {
+            (Some(index), Some(attrs)) => NvDefineSpace {
+                auth: AuthValue::default(),
+                public: NvPublic {
+                    index,
+                    alg: Alg::default(),
+                    attrs,
+                    policy: Digest::default(),
+                    data_size: 0,
+                },
+            },
+            _ => unreachable!(),
+        }
     }
-}
 
-#[tactic(auto, unfolding(crate::specs::Parameters::nv_define_space))]
-pub(crate) fn read_nv_define_space(
-    cursor: &mut Cursor<'_>,
-    auth: &mut AuthValue,
-    public: &mut NvPublic,
-) -> Result<(), Refusal>
-    ensures reads { TakesNumbered (λ _. params.NvDefineSpace auth.new public.new) nv_define_space
-        cursor.old cursor.new result }
-    ensures spelled { OnOk result
-        (cursor.old.here.rest
-        ≡ spelling nv_define_space (params.NvDefineSpace auth.new public.new)
-        ++ cursor.new.here.rest) }
-{
-    cursor.number(of_parameter(1));
-    auth.read(cursor)?;
-    cursor.number(of_parameter(2));
-    public.read(cursor)
-}
+    pub(crate) fn read(&mut self, cursor: &mut Cursor<'_>) -> Result<(), Refusal>
+        ensures reads { TakesNumbered (λ _. params.NvDefineSpace self.new) nv_define_space
+            cursor.old cursor.new result }
+        ensures spelled { OnOk result
+            (cursor.old.here.rest
+            ≡ spelling nv_define_space (params.NvDefineSpace self.new) ++ cursor.new.here.rest) }
+    {
+        cursor.number(of_parameter(1));
+        self.auth.read(cursor)?;
+        cursor.number(of_parameter(2));
+        self.public.read(cursor)
+    }
 
-#[tactic(auto, unfolding(crate::specs::Parameters::nv_define_space))]
-#[inline(always)]
-pub(crate) fn nv_define_space_len(auth: &AuthValue, public: &NvPublic) -> usize
-    ensures value { result
-        ≡ length (spelling nv_define_space (params.NvDefineSpace auth.now public.now)) }
-    ensures fits { result ≤ most_params }
-    ensures spelled { (left : ℕ)
-        → Fits left nv_define_space (params.NvDefineSpace auth.now public.now) }
-{
-    auth.has_spelling();
-    public.has_spelling();
-    auth.len() + public.len()
-}
+    #[inline(always)]
+    pub(crate) fn len(&self) -> usize
+        ensures value { result ≡ length (spelling nv_define_space (params.NvDefineSpace self.now)) }
+        ensures fits { result ≤ most_params }
+        ensures spelled { (left : ℕ) → Fits left nv_define_space (params.NvDefineSpace self.now) }
+    {
+        self.auth.has_spelling();
+        self.public.has_spelling();
+        self.auth.len() + self.public.len()
+    }
 
-#[tactic(auto, unfolding(crate::specs::Parameters::nv_define_space))]
-#[inline(always)]
-pub(crate) fn put_nv_define_space<R: Room>(auth: &AuthValue, public: &NvPublic, out: &mut R)
-    requires { length (R.written out.old)
-        + length (spelling nv_define_space (params.NvDefineSpace auth.now public.now))
-        ≤ R.size }
-    ensures { R.written out.new
-        ≡ R.written out.old ++ spelling nv_define_space (params.NvDefineSpace auth.now public.now) }
-{
-    auth.put(out);
-    public.put(out);
+    #[inline(always)]
+    pub(crate) fn put<R: Room>(&self, out: &mut R)
+        requires { length (R.written out.old)
+            + length (spelling nv_define_space (params.NvDefineSpace self.now))
+            ≤ R.size }
+        ensures { R.written out.new
+            ≡ R.written out.old ++ spelling nv_define_space (params.NvDefineSpace self.now) }
+    {
+        self.auth.put(out);
+        self.public.put(out);
+    }
 }
 
 // ---- TPM2_NV_UndefineSpace (31.4)
@@ -159,49 +162,56 @@ pub(crate) const NV_READ: Row = Row {
     needs_authorization: true,
 };
 
-/// Reads the size and the offset of TPM2_NV_Read in the place of others, or answers their first fault: INSUFFICIENT
-/// with the parameter's number. What stands there then is not said.
-#[tactic(auto, unfolding(crate::specs::Parameters::nv_read))]
-pub fn read_nv_read(
-    cursor: &mut Cursor<'_>,
-    size: &mut u16,
-    offset: &mut u16,
-) -> Result<(), Refusal>
-    ensures reads { TakesNumbered (λ _. params.NvRead size.new offset.new) nv_read
-        cursor.old cursor.new result }
-    ensures spelled { OnOk result
-        (cursor.old.here.rest
-        ≡ spelling nv_read (params.NvRead size.new offset.new) ++ cursor.new.here.rest) }
-{
-    cursor.number(of_parameter(1));
-    size.read(cursor)?;
-    cursor.number(of_parameter(2));
-    offset.read(cursor)
+/// The parameters of TPM2_NV_Read.
+#[derive(Clone, Copy, Drop)]
+pub struct NvRead {
+    pub size: u16,
+    pub offset: u16,
 }
 
 #[tactic(auto, unfolding(crate::specs::Parameters::nv_read))]
-#[inline(always)]
-pub(crate) fn nv_read_len(size: u16, offset: u16) -> usize
-    ensures value { result ≡ length (spelling nv_read (params.NvRead size offset)) }
-    ensures fits { result ≤ most_params }
-    ensures spelled { (left : ℕ) → Fits left nv_read (params.NvRead size offset) }
-{
-    prove!(size <= u16::MAX);
-    prove!(offset <= u16::MAX);
-    size.len() + offset.len()
-}
+impl NvRead {
+    /// Parameters that others are read in the place of.
+    pub fn any() -> Self {
+        NvRead { size: 0, offset: 0 }
+    }
 
-#[tactic(auto, unfolding(crate::specs::Parameters::nv_read))]
-#[inline(always)]
-pub(crate) fn put_nv_read<R: Room>(size: u16, offset: u16, out: &mut R)
-    requires { length (R.written out.old)
-        + length (spelling nv_read (params.NvRead size offset))
-        ≤ R.size }
-    ensures { R.written out.new
-        ≡ R.written out.old ++ spelling nv_read (params.NvRead size offset) }
-{
-    size.put(out);
-    offset.put(out);
+    /// Reads the parameters in the place of others, or answers their first fault: INSUFFICIENT with the parameter's
+    /// number. What stands there then is not said.
+    pub fn read(&mut self, cursor: &mut Cursor<'_>) -> Result<(), Refusal>
+        ensures reads { TakesNumbered (λ _. params.NvRead self.new) nv_read
+            cursor.old cursor.new result }
+        ensures spelled { OnOk result
+            (cursor.old.here.rest
+            ≡ spelling nv_read (params.NvRead self.new) ++ cursor.new.here.rest) }
+    {
+        cursor.number(of_parameter(1));
+        self.size.read(cursor)?;
+        cursor.number(of_parameter(2));
+        self.offset.read(cursor)
+    }
+
+    #[inline(always)]
+    pub(crate) fn len(&self) -> usize
+        ensures value { result ≡ length (spelling nv_read (params.NvRead self.now)) }
+        ensures fits { result ≤ most_params }
+        ensures spelled { (left : ℕ) → Fits left nv_read (params.NvRead self.now) }
+    {
+        self.size.has_spelling();
+        self.offset.has_spelling();
+        self.size.len() + self.offset.len()
+    }
+
+    #[inline(always)]
+    pub(crate) fn put<R: Room>(&self, out: &mut R)
+        requires { length (R.written out.old) + length (spelling nv_read (params.NvRead self.now))
+            ≤ R.size }
+        ensures { R.written out.new
+            ≡ R.written out.old ++ spelling nv_read (params.NvRead self.now) }
+    {
+        self.size.put(out);
+        self.offset.put(out);
+    }
 }
 
 #[tactic(auto, unfolding(crate::specs::Replies::nv_read_reply))]
@@ -217,27 +227,4 @@ pub(crate) fn read_nv_read_reply(
     cursor.number(of_parameter(1));
     *body = ReplyBody::NvRead(NvData::take(cursor)?);
     Ok(())
-}
-
-#[tactic(auto, unfolding(crate::specs::Replies::nv_read_reply))]
-#[inline(always)]
-pub(crate) fn nv_read_reply_len(bytes: &NvData) -> usize
-    ensures value { result ≡ length (spelling nv_read_reply (replies.NvRead bytes.now)) }
-    ensures fits { result ≤ most_reply_params }
-    ensures spelled { (left : ℕ) → Fits left nv_read_reply (replies.NvRead bytes.now) }
-{
-    bytes.has_spelling();
-    bytes.len()
-}
-
-#[tactic(auto, unfolding(crate::specs::Replies::nv_read_reply))]
-#[inline(always)]
-pub(crate) fn put_nv_read_reply<R: Room>(bytes: &NvData, out: &mut R)
-    requires { length (R.written out.old)
-        + length (spelling nv_read_reply (replies.NvRead bytes.now))
-        ≤ R.size }
-    ensures { R.written out.new
-        ≡ R.written out.old ++ spelling nv_read_reply (replies.NvRead bytes.now) }
-{
-    bytes.put(out);
 }

@@ -1,13 +1,13 @@
 //! The commands of the registers (Part 3, 22).
 
-ghost use Rattle.std.specs.Prelude.{◌≡◌, ◌≤◌, ◌+◌, ◌++◌, length, ℕ, None, IfOk, OnOk};
+ghost use Rattle.std.specs.Prelude.{◌≡◌, ◌≤◌, ◌+◌, ◌++◌, length, ℕ, None, OnOk};
 ghost use Rattle.tpm_wire.specs.Spelling.{spelling, Fits};
 ghost use Rattle.tpm_wire.specs.Buffers.{TakesNumbered};
-ghost use Rattle.tpm_commands.specs.Limits.{most_params, most_reply_params};
+ghost use Rattle.tpm_commands.specs.Limits.{most_reply_params};
 ghost use Rattle.tpm_types.specs.declared.command_code.CommandCode.TheVariants as codes;
-ghost use Rattle.tpm_commands.specs.declared.command_parameters.Params.TheVariants as params;
+ghost use Rattle.tpm_commands.specs.declared.command.Params.TheVariants as params;
 ghost use Rattle.tpm_commands.specs.declared.response.ReplyBody.TheVariants as replies;
-ghost use Rattle.tpm_commands.specs.Parameters.{pcr_event, pcr_read, pcr_extend};
+ghost use Rattle.tpm_commands.specs.Parameters.{pcr_extend};
 ghost use Rattle.tpm_commands.specs.Replies.{code_for_reply, pcr_event_reply, pcr_read_reply, IsReplyTo};
 
 use crate::command_handles::HandleKind;
@@ -39,29 +39,6 @@ pub fn read_pcr_extend(cursor: &mut Cursor<'_>, digests: &mut DigestValues) -> R
     digests.read(cursor)
 }
 
-#[tactic(auto, unfolding(crate::specs::Parameters::pcr_extend))]
-#[inline(always)]
-pub(crate) fn pcr_extend_len(digests: &DigestValues) -> usize
-    ensures value { result ≡ length (spelling pcr_extend (params.PcrExtend digests.now)) }
-    ensures fits { result ≤ most_params }
-    ensures spelled { (left : ℕ) → Fits left pcr_extend (params.PcrExtend digests.now) }
-{
-    digests.has_spelling();
-    digests.len()
-}
-
-#[tactic(auto, unfolding(crate::specs::Parameters::pcr_extend))]
-#[inline(always)]
-pub(crate) fn put_pcr_extend<R: Room>(digests: &DigestValues, out: &mut R)
-    requires { length (R.written out.old)
-        + length (spelling pcr_extend (params.PcrExtend digests.now))
-        ≤ R.size }
-    ensures { R.written out.new
-        ≡ R.written out.old ++ spelling pcr_extend (params.PcrExtend digests.now) }
-{
-    digests.put(out);
-}
-
 // ---- TPM2_PCR_Event (22.3)
 
 pub(crate) const PCR_EVENT: Row = Row {
@@ -75,39 +52,6 @@ pub(crate) fn any_event<'a>() -> Event<'a> {
         Some(event) => event,
         None => unreachable!(),
     }
-}
-
-#[tactic(auto, unfolding(crate::specs::Parameters::pcr_event))]
-pub(crate) fn take_pcr_event<'a>(cursor: &mut Cursor<'a>) -> Result<Event<'a>, Refusal>
-    ensures reads { TakesNumbered (λ e. params.PcrEvent e) pcr_event cursor.old cursor.new result }
-    ensures spelled { IfOk result
-        (λ e. cursor.old.here.rest
-        ≡ spelling pcr_event (params.PcrEvent e) ++ cursor.new.here.rest) }
-{
-    cursor.number(of_parameter(1));
-    Event::take(cursor)
-}
-
-#[tactic(auto, unfolding(crate::specs::Parameters::pcr_event))]
-#[inline(always)]
-pub(crate) fn pcr_event_len(event: &Event<'_>) -> usize
-    ensures value { result ≡ length (spelling pcr_event (params.PcrEvent event.now)) }
-    ensures fits { result ≤ most_params }
-    ensures spelled { (left : ℕ) → Fits left pcr_event (params.PcrEvent event.now) }
-{
-    event.has_spelling();
-    event.len()
-}
-
-#[tactic(auto, unfolding(crate::specs::Parameters::pcr_event))]
-#[inline(always)]
-pub(crate) fn put_pcr_event<R: Room>(event: &Event<'_>, out: &mut R)
-    requires { length (R.written out.old) + length (spelling pcr_event (params.PcrEvent event.now))
-        ≤ R.size }
-    ensures { R.written out.new
-        ≡ R.written out.old ++ spelling pcr_event (params.PcrEvent event.now) }
-{
-    event.put(out);
 }
 
 #[tactic(auto, unfolding(crate::specs::Replies::pcr_event_reply))]
@@ -125,73 +69,12 @@ pub(crate) fn read_pcr_event_reply(
     Ok(())
 }
 
-#[tactic(auto, unfolding(crate::specs::Replies::pcr_event_reply))]
-#[inline(always)]
-pub(crate) fn pcr_event_reply_len(digests: &DigestValues) -> usize
-    ensures value { result ≡ length (spelling pcr_event_reply (replies.PcrEvent digests.now)) }
-    ensures fits { result ≤ most_reply_params }
-    ensures spelled { (left : ℕ) → Fits left pcr_event_reply (replies.PcrEvent digests.now) }
-{
-    digests.has_spelling();
-    digests.len()
-}
-
-#[tactic(auto, unfolding(crate::specs::Replies::pcr_event_reply))]
-#[inline(always)]
-pub(crate) fn put_pcr_event_reply<R: Room>(digests: &DigestValues, out: &mut R)
-    requires { length (R.written out.old)
-        + length (spelling pcr_event_reply (replies.PcrEvent digests.now))
-        ≤ R.size }
-    ensures { R.written out.new
-        ≡ R.written out.old ++ spelling pcr_event_reply (replies.PcrEvent digests.now) }
-{
-    digests.put(out);
-}
-
 // ---- TPM2_PCR_Read (22.4)
 
 pub(crate) const PCR_READ: Row = Row {
     handles: &[],
     needs_authorization: false,
 };
-
-#[tactic(auto, unfolding(crate::specs::Parameters::pcr_read))]
-pub(crate) fn read_pcr_read(
-    cursor: &mut Cursor<'_>,
-    selections: &mut Selections,
-) -> Result<(), Refusal>
-    ensures reads { TakesNumbered (λ _. params.PcrRead selections.new) pcr_read
-        cursor.old cursor.new result }
-    ensures spelled { OnOk result
-        (cursor.old.here.rest
-        ≡ spelling pcr_read (params.PcrRead selections.new) ++ cursor.new.here.rest) }
-{
-    cursor.number(of_parameter(1));
-    selections.read(cursor)
-}
-
-#[tactic(auto, unfolding(crate::specs::Parameters::pcr_read))]
-#[inline(always)]
-pub(crate) fn pcr_read_len(selections: &Selections) -> usize
-    ensures value { result ≡ length (spelling pcr_read (params.PcrRead selections.now)) }
-    ensures fits { result ≤ most_params }
-    ensures spelled { (left : ℕ) → Fits left pcr_read (params.PcrRead selections.now) }
-{
-    selections.has_spelling();
-    selections.len()
-}
-
-#[tactic(auto, unfolding(crate::specs::Parameters::pcr_read))]
-#[inline(always)]
-pub(crate) fn put_pcr_read<R: Room>(selections: &Selections, out: &mut R)
-    requires { length (R.written out.old)
-        + length (spelling pcr_read (params.PcrRead selections.now))
-        ≤ R.size }
-    ensures { R.written out.new
-        ≡ R.written out.old ++ spelling pcr_read (params.PcrRead selections.now) }
-{
-    selections.put(out);
-}
 
 // Makes it a reply to a PCR_Read, which another one is read in the place of. One that is there stays, since it is the
 // largest reply and costs as many stores to make.

@@ -5,18 +5,17 @@ ghost use Rattle.tpm_wire.specs.Spelling.{spelling, Fits};
 ghost use Rattle.tpm_wire.specs.Buffers.{TakesNumbered};
 ghost use Rattle.tpm_commands.specs.Limits.{most_params, most_reply_params};
 ghost use Rattle.tpm_types.specs.declared.command_code.CommandCode.TheVariants as codes;
-ghost use Rattle.tpm_commands.specs.declared.command_parameters.Params.TheVariants as params;
+ghost use Rattle.tpm_commands.specs.declared.command.Params.TheVariants as params;
 ghost use Rattle.tpm_commands.specs.declared.response.ReplyBody.TheVariants as replies;
 ghost use Rattle.tpm_commands.specs.Parameters.{start_auth_session};
 ghost use Rattle.tpm_commands.specs.Replies.{session_handle, start_auth_session_reply, IsReplyTo};
 
-use crate::command::StartAuth;
 use crate::command_handles::HandleKind;
 use crate::commands::Row;
 use crate::response::{ReplyBody, StartReply};
 use tpm_types::{Alg, EncryptedSalt, Nonce, SessionHandle, SessionType, SymDef};
 use tpm_wire::response_code::{of_handle, of_parameter};
-use tpm_wire::{Cursor, Refusal, Room, Wire};
+use tpm_wire::{Cursor, Duplicate, Refusal, Room, Wire};
 
 // ---- TPM2_StartAuthSession (11.1)
 
@@ -25,82 +24,93 @@ pub(crate) const START_AUTH_SESSION: Row = Row {
     needs_authorization: false,
 };
 
-#[tactic(auto, unfolding(crate::specs::Parameters::start_auth_session))]
-pub(crate) fn read_start_auth_session(
-    cursor: &mut Cursor<'_>,
-    nonce_caller: &mut Nonce,
-    session_type: &mut SessionType,
-    symmetric: &mut SymDef,
-    auth_hash: &mut Alg,
-) -> Result<(), Refusal>
-    ensures reads { TakesNumbered
-        (λ _. params.StartAuthSession nonce_caller.new session_type.new symmetric.new
-        auth_hash.new) start_auth_session cursor.old cursor.new result }
-    ensures spelled { OnOk result
-        (cursor.old.here.rest
-        ≡ spelling start_auth_session
-        (params.StartAuthSession nonce_caller.new session_type.new symmetric.new
-        auth_hash.new)
-        ++ cursor.new.here.rest) }
-{
-    cursor.number(of_parameter(1));
-    nonce_caller.read(cursor)?;
-    cursor.number(of_parameter(2));
-    EncryptedSalt::take(cursor)?;
-    cursor.number(of_parameter(3));
-    session_type.read(cursor)?;
-    cursor.number(of_parameter(4));
-    symmetric.read(cursor)?;
-    cursor.number(of_parameter(5));
-    auth_hash.read(cursor)
+/// The parameters of TPM2_StartAuthSession. The salt is empty.
+#[derive(Drop)]
+pub struct StartParams {
+    pub nonce_caller: Nonce,
+    pub session_type: SessionType,
+    pub symmetric: SymDef,
+    pub auth_hash: Alg,
 }
 
 #[tactic(auto, unfolding(crate::specs::Parameters::start_auth_session))]
-#[inline(always)]
-pub(crate) fn start_auth_session_len(start: &StartAuth) -> usize
-    ensures value { result
-        ≡ length
-        (spelling start_auth_session
-        (params.StartAuthSession start.now.nonce_caller start.now.session_type
-        start.now.symmetric start.now.auth_hash)) }
-    ensures fits { result ≤ most_params }
-    ensures spelled { (left : ℕ)
-        → Fits left start_auth_session
-        (params.StartAuthSession start.now.nonce_caller start.now.session_type
-        start.now.symmetric start.now.auth_hash) }
-{
-    start.nonce_caller.has_spelling();
-    EncryptedSalt::Empty.has_spelling();
-    start.session_type.has_spelling();
-    start.symmetric.has_spelling();
-    start.auth_hash.has_spelling();
-    start.nonce_caller.len()
-        + EncryptedSalt::Empty.len()
-        + start.session_type.len()
-        + start.symmetric.len()
-        + start.auth_hash.len()
+impl StartParams {
+    /// Parameters that others are read in the place of: no nonce, for an HMAC session.
+    pub fn any() -> Self {
+        StartParams {
+            nonce_caller: Nonce::default(),
+            session_type: SessionType::Hmac,
+            symmetric: SymDef::Null,
+            auth_hash: Alg::default(),
+        }
+    }
+
+    pub(crate) fn read(&mut self, cursor: &mut Cursor<'_>) -> Result<(), Refusal>
+        ensures reads { TakesNumbered (λ _. params.StartAuthSession self.new) start_auth_session
+            cursor.old cursor.new result }
+        ensures spelled { OnOk result
+            (cursor.old.here.rest
+            ≡ spelling start_auth_session (params.StartAuthSession self.new)
+            ++ cursor.new.here.rest) }
+    {
+        cursor.number(of_parameter(1));
+        self.nonce_caller.read(cursor)?;
+        cursor.number(of_parameter(2));
+        EncryptedSalt::take(cursor)?;
+        cursor.number(of_parameter(3));
+        self.session_type.read(cursor)?;
+        cursor.number(of_parameter(4));
+        self.symmetric.read(cursor)?;
+        cursor.number(of_parameter(5));
+        self.auth_hash.read(cursor)
+    }
+
+    #[inline(always)]
+    pub(crate) fn len(&self) -> usize
+        ensures value { result
+            ≡ length (spelling start_auth_session (params.StartAuthSession self.now)) }
+        ensures fits { result ≤ most_params }
+        ensures spelled { (left : ℕ)
+            → Fits left start_auth_session (params.StartAuthSession self.now) }
+    {
+        self.nonce_caller.has_spelling();
+        EncryptedSalt::Empty.has_spelling();
+        self.session_type.has_spelling();
+        self.symmetric.has_spelling();
+        self.auth_hash.has_spelling();
+        self.nonce_caller.len()
+            + EncryptedSalt::Empty.len()
+            + self.session_type.len()
+            + self.symmetric.len()
+            + self.auth_hash.len()
+    }
+
+    #[inline(always)]
+    pub(crate) fn put<R: Room>(&self, out: &mut R)
+        requires { length (R.written out.old)
+            + length (spelling start_auth_session (params.StartAuthSession self.now))
+            ≤ R.size }
+        ensures { R.written out.new
+            ≡ R.written out.old
+            ++ spelling start_auth_session (params.StartAuthSession self.now) }
+    {
+        self.nonce_caller.put(out);
+        EncryptedSalt::Empty.put(out);
+        self.session_type.put(out);
+        self.symmetric.put(out);
+        self.auth_hash.put(out);
+    }
 }
 
-#[tactic(auto, unfolding(crate::specs::Parameters::start_auth_session))]
-#[inline(always)]
-pub(crate) fn put_start_auth_session<R: Room>(start: &StartAuth, out: &mut R)
-    requires { length (R.written out.old)
-        + length
-        (spelling start_auth_session
-        (params.StartAuthSession start.now.nonce_caller start.now.session_type
-        start.now.symmetric start.now.auth_hash))
-        ≤ R.size }
-    ensures { R.written out.new
-        ≡ R.written out.old
-        ++ spelling start_auth_session
-        (params.StartAuthSession start.now.nonce_caller start.now.session_type
-        start.now.symmetric start.now.auth_hash) }
-{
-    start.nonce_caller.put(out);
-    EncryptedSalt::Empty.put(out);
-    start.session_type.put(out);
-    start.symmetric.put(out);
-    start.auth_hash.put(out);
+impl Duplicate for StartParams {
+    fn duplicate(&self) -> Self {
+        StartParams {
+            nonce_caller: self.nonce_caller.duplicate(),
+            session_type: self.session_type,
+            symmetric: self.symmetric,
+            auth_hash: self.auth_hash,
+        }
+    }
 }
 
 /// The handle of the reply.

@@ -1,16 +1,15 @@
 //! The command of start-up (Part 3, 9).
 
-ghost use Rattle.std.specs.Prelude.{◌≡◌, ◌≤◌, ◌+◌, ◌++◌, length, ℕ, OnOk};
-ghost use Rattle.tpm_wire.specs.Spelling.{spelling, Fits};
+ghost use Rattle.std.specs.Prelude.{◌≡◌, ◌++◌, OnOk};
+ghost use Rattle.tpm_wire.specs.Spelling.{spelling};
 ghost use Rattle.tpm_wire.specs.Buffers.{TakesNumbered};
-ghost use Rattle.tpm_commands.specs.Limits.{most_params};
-ghost use Rattle.tpm_commands.specs.declared.command_parameters.Params.TheVariants as params;
+ghost use Rattle.tpm_commands.specs.declared.command.Params.TheVariants as params;
 ghost use Rattle.tpm_commands.specs.Parameters.{startup};
 
 use crate::commands::Row;
 use tpm_types::StartupType;
 use tpm_wire::response_code::of_parameter;
-use tpm_wire::{Cursor, Refusal, Room, Wire};
+use tpm_wire::{Cursor, Refusal, Wire};
 
 // ---- TPM2_Startup (9.3)
 
@@ -31,26 +30,4 @@ pub fn read_startup(cursor: &mut Cursor<'_>, startup_type: &mut StartupType) -> 
 {
     cursor.number(of_parameter(1));
     startup_type.read(cursor)
-}
-
-#[tactic(auto, unfolding(crate::specs::Parameters::startup))]
-#[inline(always)]
-pub(crate) fn startup_len(startup_type: StartupType) -> usize
-    ensures value { result ≡ length (spelling startup (params.Startup startup_type)) }
-    ensures fits { result ≤ most_params }
-    ensures spelled { (left : ℕ) → Fits left startup (params.Startup startup_type) }
-{
-    startup_type.has_spelling();
-    startup_type.len()
-}
-
-#[tactic(auto, unfolding(crate::specs::Parameters::startup))]
-#[inline(always)]
-pub(crate) fn put_startup<R: Room>(startup_type: StartupType, out: &mut R)
-    requires { length (R.written out.old) + length (spelling startup (params.Startup startup_type))
-        ≤ R.size }
-    ensures { R.written out.new
-        ≡ R.written out.old ++ spelling startup (params.Startup startup_type) }
-{
-    startup_type.put(out);
 }

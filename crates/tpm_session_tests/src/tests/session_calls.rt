@@ -58,11 +58,12 @@ fn done(sessions: &mut Sessions, registers: &Registers, body: &CommandBody) -> R
             sessions.policy_command_code(*session, *code)
         }
         CommandBody::PolicyOr { session, digests } => sessions.policy_or(*session, digests),
-        CommandBody::PolicyPcr {
-            session,
-            pcr_digest,
-            selections,
-        } => sessions.policy_pcr(*session, pcr_digest, selections, registers),
+        CommandBody::PolicyPcr { session, params } => sessions.policy_pcr(
+            *session,
+            &params.pcr_digest,
+            &params.selections,
+            registers,
+        ),
         _ => Err(u32::MAX),
     }
 }

@@ -1,11 +1,12 @@
-use Rattle.std.proofs.Common.{◌≡◌, ◌∙◌, ℕ, List, refl, ap, subst}
+use Rattle.std.proofs.Common.{◌≡◌, ◌∙◌, ℕ, refl, ap, subst}
 use Rattle.std.specs.Prelude.{OnOk}
 use Rattle.tpm_types.specs.declared.handle_sets.NvAuthHandle.{NvAuthHandle}
 use Rattle.tpm_types.specs.declared.handle_sets.BindHandle.{BindHandle}
 use Rattle.tpm_commands.specs.declared.command.CommandBody.{CommandBody}
+use Rattle.tpm_commands.specs.declared.commands.session.StartParams.{StartParams}
 use Rattle.tpm_commands.specs.Handles.{first, second}
 use Rattle.tpm_commands.specs.declared.command.CommandBody.TheVariants as bodies
-use Rattle.tpm_commands.specs.declared.command_parameters.Params.TheVariants as params
+use Rattle.tpm_commands.specs.declared.command.Params.TheVariants as params
 use Rattle.tpm_commands.specs.declared.response.ReplyBody.TheVariants as replies
 use Rattle.tpm_buffer.specs.Commands.{body_from, bind_in, index_in, nv_auth_in, policy_in}
 use Rattle.tpm_model.specs.Actions.{action}
@@ -54,35 +55,11 @@ returns-in-PcrRead-clause-stands c =
 
 pub returns-in-StartAuthSession-clause-answer : goal.returns-in-StartAuthSession-clause-answer
 returns-in-StartAuthSession-clause-answer c =
-    let is : bodies.StartAuthSession
-    (record {
-      bind = c.bind_in.result;
-      nonce_caller = c.duplicate.result;
-      session_type = c.in-StartAuthSession.session_type;
-      symmetric =
-          c.in-StartAuthSession.symmetric;
-      auth_hash = c.in-StartAuthSession.auth_hash;
-    }) ≡ body_from c.args.handles.now c.args.params.now =
+    let is : bodies.StartAuthSession (record { bind = c.bind_in.result; params = c.duplicate.result }) ≡ body_from c.args.handles.now c.args.params.now =
     rw c.in-StartAuthSession.is
-    (ap (λ (b : BindHandle).
-    bodies.StartAuthSession
-    (record {
-      bind = b;
-      nonce_caller = c.duplicate.result;
-      session_type = c.in-StartAuthSession.session_type;
-      symmetric = c.in-StartAuthSession.symmetric;
-      auth_hash = c.in-StartAuthSession.auth_hash;
-    })) (c.bind_in.ensures ∙ ap bind_in c.second_handle-second.ensures)
-    ∙ ap (λ (m : List ℕ).
-    bodies.StartAuthSession
-    (record {
-      bind = bind_in (second c.args.handles.now);
-      nonce_caller = m;
-      session_type = c.in-StartAuthSession.session_type;
-      symmetric =
-          c.in-StartAuthSession.symmetric;
-      auth_hash = c.in-StartAuthSession.auth_hash;
-    })) c.duplicate.ensures) in
+    (ap (λ (b : BindHandle). bodies.StartAuthSession (record { bind = b; params = c.duplicate.result }))
+    (c.bind_in.ensures ∙ ap bind_in c.second_handle-second.ensures)
+    ∙ ap (λ (p : StartParams). bodies.StartAuthSession (record { bind = bind_in (second c.args.handles.now); params = p })) c.duplicate.ensures) in
     subst (λ (b : CommandBody). acted c.start_session.new.body c.start_session.result ≡ action (holds c.args.self.now) b c.args.nonce.now) is
     (c.start_session.ensures.answer)
 
@@ -98,8 +75,8 @@ returns-in-FlushContext-clause-stands c = rw c.in-FlushContext.is (c.flush.ensur
 
 pub returns-in-PolicyPcr-clause-answer : goal.returns-in-PolicyPcr-clause-answer
 returns-in-PolicyPcr-clause-answer c =
-    let is : bodies.PolicyPcr c.policy_in.result c.in-PolicyPcr.pcr_digest c.in-PolicyPcr.selections ≡ body_from c.args.handles.now c.args.params.now =
-    rw c.in-PolicyPcr.is (ap (λ (s : ℕ). bodies.PolicyPcr s c.in-PolicyPcr.pcr_digest c.in-PolicyPcr.selections)
+    let is : bodies.PolicyPcr c.policy_in.result c.in-PolicyPcr.asked ≡ body_from c.args.handles.now c.args.params.now =
+    rw c.in-PolicyPcr.is (ap (λ (s : ℕ). bodies.PolicyPcr s c.in-PolicyPcr.asked)
     (c.policy_in.ensures ∙ ap policy_in c.first_handle-first.ensures)) in
     subst (λ (b : CommandBody). acted replies.PolicyPcr c.policy_pcr.result ≡ action (holds c.args.self.now) b c.args.nonce.now) is
     (c.policy_pcr.ensures.answer c.args.nonce.now)
@@ -194,7 +171,7 @@ returns-in-NvRead-clause-answer c =
 pub returns-in-NvRead-clause-stands : goal.returns-in-NvRead-clause-stands
 returns-in-NvRead-clause-stands c =
     rw c.in-NvRead.is (always c.read_counter.result
-    (unchanged c.args.self.now (body_from c.args.handles.now (params.NvRead c.in-NvRead.size c.in-NvRead.offset)) c.read_counter.new.body c.args.nonce.now refl
+    (unchanged c.args.self.now (body_from c.args.handles.now (params.NvRead c.in-NvRead.asked)) c.read_counter.new.body c.args.nonce.now refl
     refl (λ o h. refl) (λ nv. refl)))
 
 pub returns-in-NvReadPublic-clause-answer : goal.returns-in-NvReadPublic-clause-answer

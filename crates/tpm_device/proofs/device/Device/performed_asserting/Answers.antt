@@ -1,7 +1,7 @@
 use Rattle.std.proofs.Common.{rules, ◌≡◌, ℕ, Err, refl, sym, ap, ◌∙◌}
 use Rattle.tpm_commands.specs.declared.command.CommandBody.TheVariants as bodies
 use Rattle.tpm_commands.specs.Handles.{first}
-use Rattle.tpm_commands.specs.declared.command_parameters.Params.TheVariants as params
+use Rattle.tpm_commands.specs.declared.command.Params.TheVariants as params
 use Rattle.tpm_commands.specs.declared.response.ReplyBody.TheVariants as replies
 use Rattle.tpm_buffer.specs.Commands.{policy_in}
 use Rattle.tpm_device.specs.inner.Performing.{Begin}
@@ -19,13 +19,12 @@ returns c =
     let x = c.args.areas.now in
     let n = c.args.nonce.now in
     let old : Begin = record { device = c.args.self.now; nonce = n; out = c.args.out.now } in
-    let digest = c.in_ok-asserted.asserted.0 in
-    let registers = c.in_ok-asserted.asserted.1 in
+    let asked = c.in_ok-asserted.asserted in
     let named = sym (c.policy_in-session.ensures ∙ ap policy_in (c.first_handle.ensures ∙ ap first c.handles.ensures)) in
-    body_done old c.policy_pcr.new.self c.roll.new.self x c.args.by.now (params.PolicyPcr digest registers)
-    (bodies.PolicyPcr c.policy_in-session.result digest registers) replies.PolicyPcr c.put_bare.new.out
+    body_done old c.policy_pcr.new.self c.roll.new.self x c.args.by.now (params.PolicyPcr asked)
+    (bodies.PolicyPcr c.policy_in-session.result asked) replies.PolicyPcr c.put_bare.new.out
     c.requires.ready (rw c.requires.asserts c.in_ok-asserted.ensures.read)
-    (ap (λ (session : ℕ). bodies.PolicyPcr session digest registers) named) (sym c.requires.asserts)
+    (ap (λ (session : ℕ). bodies.PolicyPcr session asked) named) (sym c.requires.asserts)
     (c.in_ok-policy_pcr.ensures.answer n) (c.in_ok-policy_pcr.ensures.stands n)
     (c.put_bare.ensures.bytes replies.PolicyPcr refl) c.put_bare.ensures.done
     (c.roll.ensures x (stays_authorized c.args.self.now c.policy_pcr.new.self x c.args.by.now c.args.out.now c.requires.ready
@@ -44,11 +43,10 @@ returns-in_err-policy_pcr c =
     let x = c.args.areas.now in
     let n = c.args.nonce.now in
     let old : Begin = record { device = c.args.self.now; nonce = n; out = c.args.out.now } in
-    let digest = c.in_ok-asserted.asserted.0 in
-    let registers = c.in_ok-asserted.asserted.1 in
+    let asked = c.in_ok-asserted.asserted in
     let named = sym (c.policy_in-session.ensures ∙ ap policy_in (c.first_handle.ensures ∙ ap first c.handles.ensures)) in
     let is : c.from_residual-in_err-policy_pcr.result ≡ Err c.in_err-policy_pcr.field-0.0 = search rules in
-    rw is (body_refused old c.policy_pcr.new.self x (params.PolicyPcr digest registers)
-    (bodies.PolicyPcr c.policy_in-session.result digest registers) c.in_err-policy_pcr.field-0.0
-    (rw c.requires.asserts c.in_ok-asserted.ensures.read) (ap (λ (session : ℕ). bodies.PolicyPcr session digest registers) named)
+    rw is (body_refused old c.policy_pcr.new.self x (params.PolicyPcr asked)
+    (bodies.PolicyPcr c.policy_in-session.result asked) c.in_err-policy_pcr.field-0.0
+    (rw c.requires.asserts c.in_ok-asserted.ensures.read) (ap (λ (session : ℕ). bodies.PolicyPcr session asked) named)
     (c.in_err-policy_pcr.ensures.answer n) c.in_err-policy_pcr.ensures.refused)

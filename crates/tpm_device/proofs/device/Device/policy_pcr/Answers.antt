@@ -6,5 +6,5 @@ use Rattle.tpm_device.proofs.device.Device.policy_pcr.Goals as goal
 
 pub returns-clause-stands : goal.returns-clause-stands
 returns-clause-stands c = λ n o h st.
-    sessions_change o h c.args.self.now (bodies.PolicyPcr c.args.session c.args.pcr_digest.now c.args.selections.now) replies.PolicyPcr n c.policy_pcr.new.self
+    sessions_change o h c.args.self.now (bodies.PolicyPcr c.args.session c.args.asked.now) replies.PolicyPcr n c.policy_pcr.new.self
     st refl refl (λ nv. refl) (λ k r m is none. c.in_ok-policy_pcr.ensures.asserted o h k r m is none (its_registers o h c.args.self.now st))
