@@ -13,10 +13,11 @@ ghost use Rattle.tpm_check.specs.SecureBootLines.{listed_banks};
 use crate::check_json::{ok_text, push_bank_members};
 use crate::checked::tell_fault;
 use crate::register_text::push_bank;
+use crate::replayed::replayed;
 use crate::told_secure_boot::listed_banks;
 use std::alloc::{AllocError, Global};
 use std::io::Write;
-use tpm_log::{Log, replay};
+use tpm_log::Log;
 use tpm_output::answer::Answer;
 use tpm_output::fault::ToolFault;
 use tpm_output::status::Status;
@@ -93,12 +94,8 @@ pub fn check_listed<W: Write>(
         × Appends (W.contents out.old) (W.contents out.new) text) }
     ensures err { FailsByMemoryOrWrite result }
 {
-    let found = match replay(bytes) {
-        Ok(found) => found,
-        Err(fault) => return tell_fault(alloc, json, &fault, out),
-    };
-    match Log::parse(bytes) {
-        Ok(log) => answer_to_log(alloc, json, &found, &log)?.print(out),
+    match replayed(bytes) {
+        Ok(found) => answer_to_log(alloc, json, &found.registers, &found.log)?.print(out),
         Err(fault) => tell_fault(alloc, json, &fault, out),
     }
 }

@@ -5,7 +5,7 @@ ghost use Rattle.tpm_log.specs.Changes.{AreAfter};
 ghost use Rattle.tpm_log.specs.Events.{Parses};
 ghost use Rattle.tpm_log.specs.Replays.{Replays};
 
-use tpm_log::{Log, LogFault, replay};
+use tpm_log::{Log, LogFault};
 use tpm_pcr::Registers;
 
 /// A log, with the registers that it gives.
@@ -21,7 +21,6 @@ pub(crate) fn replayed(bytes: &[u8]) -> Result<ReplayedLog<'_>, LogFault>
         × Replays AreAfter bytes.now (Ok found.registers)) }
     ensures err { IfErr result (λ fault. Parses bytes.now (Err fault)) }
 {
-    let registers = replay(bytes)?;
-    let log = Log::parse(bytes)?;
+    let (log, registers) = Log::replayed(bytes)?;
     Ok(ReplayedLog { registers, log })
 }

@@ -2,21 +2,22 @@ use Rattle.std.proofs.Common.{inl, inr, refl, string_bytes, ◌∙◌}
 use Rattle.std.proofs.lemmas.Result.{IfOk-weaker}
 use Rattle.tpm_check.proofs.listed.check_listed.Goals as goal
 
-pub returns-in_ok-answer_to_log-in-Ok-parse-clause-ok : goal.returns-in_ok-answer_to_log-in-Ok-parse-clause-ok
-returns-in_ok-answer_to_log-in-Ok-parse-clause-ok g c =
-    let log = c.in-Ok-parse.log in
-    let answer = c.in_ok-answer_to_log-in-Ok-parse.field-0 in
-    let said = c.in_ok-answer_to_log-in-Ok-parse.ensures in
+pub returns-in_ok-answer_to_log-clause-ok : goal.returns-in_ok-answer_to_log-clause-ok
+returns-in_ok-answer_to_log-clause-ok g c =
+    let log = c.in-Ok.found.log in
+    let answer = c.in_ok-answer_to_log.field-0 in
+    let said = c.in_ok-answer_to_log.ensures in
+    let told = c.in-Ok.ensures.ok in
     IfOk-weaker c.print.result _ _ (λ status printed. (
       string_bytes answer.text,
-      inl (log.hashes, log.records, c.in-Ok.found, c.in-Ok-parse.ensures.0, c.in-Ok.ensures, printed.0 ∙ said.0, said.1),
+      inl (log.hashes, log.records, c.in-Ok.found.registers, told.0.0, told.1, printed.0 ∙ said.0, said.1),
       printed.1,
     )) c.print.ensures.ok
 
-pub returns-in-Err-parse-clause-ok : goal.returns-in-Err-parse-clause-ok
-returns-in-Err-parse-clause-ok g c =
-    IfOk-weaker c.tell_fault-in-Err-parse.result _ _ (λ status printed. (
+pub returns-in-Err-clause-ok : goal.returns-in-Err-clause-ok
+returns-in-Err-clause-ok g c =
+    IfOk-weaker c.tell_fault.result _ _ (λ status printed. (
       _,
-      inr (c.in-Err-parse.fault, c.in-Err-parse.ensures, printed.0, refl),
+      inr (c.in-Err.fault, c.in-Err.ensures, printed.0, refl),
       printed.1,
-    )) c.tell_fault-in-Err-parse.ensures.ok
+    )) c.tell_fault.ensures.ok
