@@ -69,7 +69,7 @@ fn print_ok<W: Write>(json: bool, status: Status, out: &mut W) -> Result<Status,
 fn answer_to_signed(
     alloc: Global,
     found: &Beside<'_>,
-    asked: &Asked<'_>,
+    asked: &Asked<'_, '_>,
 ) -> Result<Answer, AllocError>
     ensures { IfOk result (λ a. ChecksSigned (told found.now) (asked_by asked.now)
         (printed a.status (string_bytes a.text))) }
@@ -119,7 +119,7 @@ fn is_compared<F>(attest: Option<&[u8]>, list: &Option<F>) -> bool
 fn print_compared<F: Source, W: Write>(
     alloc: Global,
     found: &Beside<'_>,
-    asked: &Asked<'_>,
+    asked: &Asked<'_, '_>,
     list: &mut Option<F>,
     out: &mut W,
 ) -> Result<Status, ToolFault>
@@ -147,7 +147,7 @@ fn print_compared<F: Source, W: Write>(
 fn print_to_end<F: Source, W: Write>(
     alloc: Global,
     found: &Beside<'_>,
-    asked: &Asked<'_>,
+    asked: &Asked<'_, '_>,
     list: &mut Option<F>,
     out: &mut W,
 ) -> Result<Status, ToolFault>
@@ -209,7 +209,7 @@ fn print_to_end<F: Source, W: Write>(
 pub fn check_log<L: Source, F: Source, W: Write>(
     alloc: Global,
     log: &mut L,
-    asked: &Asked<'_>,
+    asked: &Asked<'_, '_>,
     list: &mut Option<F>,
     out: &mut W,
 ) -> Result<Status, ToolFault>

@@ -138,7 +138,7 @@ pub fn list_vouched<L: Source, W: Write>(
     alloc: Global,
     log: &mut L,
     listing: Listing<'_>,
-    asked: &Asked<'_>,
+    asked: &Asked<'_, '_>,
     out: &mut W,
 ) -> Result<Status, ToolFault>
     ensures failures { CountsRead (L.failed log.old) (L.failed log.new) result }

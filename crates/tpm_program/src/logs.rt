@@ -18,7 +18,7 @@ use std::io::Write;
 use tpm_check::{Asked, check_boot, check_extends, check_listed, check_log, list_vouched};
 use tpm_events::listed_events::MOST_READ;
 use tpm_events::print_header;
-use tpm_options::{CheckTask, EventsTask, LogTask};
+use tpm_options::{CheckOptions, CheckTask, EventsTask, LogTask};
 use tpm_output::fault::ToolFault;
 use tpm_output::status::Status;
 use tpm_wire::Source;
@@ -40,11 +40,8 @@ pub(crate) fn events<'a, I: Inputs, W: Write>(
 {
     let mut log = opened(inputs, task.log)?;
     let attest = bytes_if(alloc, inputs, task.attest, MOST_ATTEST)?;
-    let asked = Asked {
-        options: &task.options,
-        attest: slice_if(&attest),
-        allow: None,
-    };
+    let allow = None;
+    let asked = asked_with(&task.options, &attest, &allow);
     match list_vouched(alloc, &mut log, task.listing, &asked, out) {
         Ok(status) => Ok(status),
         Err(fault) => Err(of_reading(inputs, fault, task.log)),
@@ -103,8 +100,29 @@ fn slice_if(bytes: &Option<Vec<u8>>) -> Option<&[u8]>
     }
 }
 
+// What a log is held against, by what was read of the files beside it.
+fn asked_with<'a, 'o>(
+    options: &'a CheckOptions<'o>,
+    attest: &'a Option<Vec<u8>>,
+    allow: &'a Option<Vec<u8>>,
+) -> Asked<'a, 'o>
+    ensures { asked_by result ≡ record {
+      options = options.now;
+      attest = option_map (λ v. v.items) attest.now;
+      allow = option_map (λ v. v.items) allow.now;
+    } }
+{
+    let attest = slice_if(attest);
+    let allow = slice_if(allow);
+    Asked {
+        options,
+        attest,
+        allow,
+    }
+}
+
 // Whether a list of allowed digests is compared, or Secure Boot told, in place of registers.
-fn is_of_boot(asked: &Asked<'_>) -> bool
+fn is_of_boot(asked: &Asked<'_, '_>) -> bool
     ensures { result ≡ is_of_boot (asked_by asked.now) }
 {
     asked.options.secure_boot || (asked.allow.is_some() && asked.attest.is_some())
@@ -114,7 +132,7 @@ fn is_of_boot(asked: &Asked<'_>) -> bool
 fn check_opened<S: Source, W: Write>(
     alloc: Global,
     log: &mut S,
-    asked: &Asked<'_>,
+    asked: &Asked<'_, '_>,
     list: &mut Option<S>,
     out: &mut W,
 ) -> Result<Status, ToolFault>
@@ -161,11 +179,7 @@ pub(crate) fn check<'a, I: Inputs, W: Write>(
     let mut list = opened_if(inputs, files.registers)?;
     let attest = bytes_if(alloc, inputs, files.attest, MOST_ATTEST)?;
     let allow = bytes_if(alloc, inputs, files.allow, MOST_READ)?;
-    let asked = Asked {
-        options: &task.options,
-        attest: slice_if(&attest),
-        allow: slice_if(&allow),
-    };
+    let asked = asked_with(&task.options, &attest, &allow);
     match check_opened(alloc, &mut log, &asked, &mut list, out) {
         Ok(status) => Ok(status),
         Err(fault) => {

@@ -48,7 +48,7 @@ pub(crate) fn options(quote: Option<&'static str>) -> CheckOptions<'static> {
 }
 
 // The same, without a quote as it was signed.
-pub(crate) fn asked<'a>(options: &'a CheckOptions<'a>) -> Asked<'a> {
+pub(crate) fn asked<'a, 'o>(options: &'a CheckOptions<'o>) -> Asked<'a, 'o> {
     Asked {
         options,
         attest: None,

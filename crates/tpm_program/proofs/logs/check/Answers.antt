@@ -1,4 +1,5 @@
 use Rattle.std.proofs.Common.{rules, ℕ, List, Option, option_map, subst}
+use Rattle.tpm_check.specs.Asked.{Asked}
 use Rattle.tpm_events.specs.ListEvents.{most_read}
 use Rattle.tpm_output.specs.Reads.{most_attest}
 use Rattle.tpm_program.specs.Performs.{OfFirstIf, PrintsAsked}
@@ -32,8 +33,7 @@ returns-in-Ok-clause-ok g c =
             c.in_ok-list.ensures.opened
             (of_first_if offered most_attest files.attest attest (quoted list) c.in_ok-attest.ensures.ok
             (of_first_if offered most_read files.allow allow (prints list attest) c.in_ok-allow.ensures.ok
-            (subst (prints list attest) c.slice_if-2.ensures
-            (subst (λ (read : Option (List ℕ)). prints list read (option_map (λ b. b.now) c.slice_if-2.result)) c.slice_if.ensures said.1)))),
+            (subst (λ (a : Asked). PrintsAsked (record { log = log; list = list; asked = a }) status said.0) c.asked_with-asked.ensures said.1))),
       ),
       said.2,
     )

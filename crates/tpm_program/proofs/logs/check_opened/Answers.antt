@@ -7,7 +7,7 @@ returns-else-is_of_boot-clause-ok g c =
     let failed = g.S.Source.failed in
     if_counted _ c.check_log.result c.check_log.ensures.failures c.check_log.ensures.ok (λ status same said. (
       said.1,
-      by_false _ _ _ c.if-options.false (by_false _ _ _ (rw c.is_of_boot.ensures at c.if-is_of_boot.false) (
+      by_false _ _ _ c.if-asked.false (by_false _ _ _ (rw c.is_of_boot.ensures at c.if-is_of_boot.false) (
         said.0,
         coming c.check_log.new.log,
         _,

@@ -1,6 +1,7 @@
 use Rattle.std.proofs.Common.{ℕ, List, None, Option, option_map, subst}
 use Rattle.tpm_output.specs.Reads.{most_attest}
 use Rattle.tpm_events.specs.ListEvents.{most_read}
+use Rattle.tpm_check.specs.Asked.{Asked}
 use Rattle.tpm_check.specs.VouchedEvents.{ListsBeside}
 use Rattle.tpm_program.specs.Performs.{OfFirst}
 use Rattle.tpm_program.proofs.Checks.{of_first_if}
@@ -20,7 +21,7 @@ returns-in-Ok-clause-ok g c =
         log,
         c.in_ok-log.ensures.opened,
         of_first_if offered most_attest task.attest (option_map (λ v. v.items) c.in_ok-attest.attest) prints c.in_ok-attest.ensures.ok
-            (subst prints c.slice_if.ensures said.1),
+            (subst (λ (a : Asked). OfFirst most_read (λ bytes. ListsBeside task.listing a bytes status said.0) log) c.asked_with-asked.ensures said.1),
       ),
       said.2,
     )
