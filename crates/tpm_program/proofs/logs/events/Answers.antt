@@ -15,13 +15,17 @@ returns-in-Ok-clause-ok g c =
     let said = c.in-Ok.ensures.ok in
     let log = g.I.Source.Source.coming c.in_ok-log.log in
     let prints : Option (List ℕ) → Type 0 = λ quote. OfFirst most_read
-    (λ bytes. ListsBeside task.listing (record { options = task.options; attest = quote; allow = None }) bytes status said.0) log in (
-      said.0,
+    (λ bytes. ListsBeside task.listing (record { options = task.options; attest = quote; allow = None }) bytes status said.1) log in (
+      said.1,
       (
         log,
         c.in_ok-log.ensures.opened,
-        of_first_if offered most_attest task.attest (option_map (λ v. v.items) c.in_ok-attest.attest) prints c.in_ok-attest.ensures.ok
-            (subst (λ (a : Asked). OfFirst most_read (λ bytes. ListsBeside task.listing a bytes status said.0) log) c.asked_with-asked.ensures said.1),
+        of_first_if offered most_attest task.attest (option_map (λ v. v.items) c.in_ok-attest.attest) prints c.in_ok-attest.ensures.ok (
+          said.0,
+          g.I.Source.Source.coming c.list_vouched.new.log,
+          said.2,
+          subst (λ (a : Asked). ListsBeside task.listing a said.0 status said.1) c.asked_with-asked.ensures said.3,
+        ),
       ),
-      said.2,
+      said.4,
     )
