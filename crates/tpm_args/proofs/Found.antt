@@ -23,8 +23,10 @@ use Rattle.clap.proofs.OnLiterals.{clap_on_literals}
 use Rattle.clap.proofs.WalkLemmas.{first_value-rows}
 use Rattle.tpm_names.specs.Selections.{IsRegisterList}
 use Rattle.tpm_names.specs.declared.selection.RegisterList.{RegisterList}
-use Rattle.tpm_options.specs.declared.CheckFiles.{CheckFiles}
 use Rattle.tpm_options.specs.declared.CheckOptions.{CheckOptions}
+use Rattle.tpm_options.specs.declared.CheckTask.{CheckTask}
+use Rattle.tpm_options.specs.declared.EventsTask.{EventsTask}
+use Rattle.tpm_options.specs.declared.LogTask.{LogTask}
 use Rattle.tpm_args.specs.declared.task.Task.TheVariants.{Show, ShowCapture, ShowPackets, ShowNv, Build, Run, Explain}
 use Rattle.tpm_args.specs.declared.task.Task.TheVariants.{ExplainName, Check, CheckListed, Events, EventsHeader}
 use Rattle.tpm_args.specs.declared.task.Task.{Task}
@@ -48,33 +50,31 @@ other name differs e = opposite_ends (ap (λ (x : Text). bytes_eq x (codes "chec
 
 -- No task has the name of `check` but its two.
 asks_no_check : (value : Text → Option Text)
-    → ((files : CheckFiles) (options : CheckOptions) → AsksWith (codes "check") value (Check files options) → ⊥)
-    → ((log : Bor Text) (json : Bool) → AsksWith (codes "check") value (CheckListed log json) → ⊥)
+    → ((task : CheckTask) → AsksWith (codes "check") value (Check task) → ⊥)
+    → ((task : LogTask) → AsksWith (codes "check") value (CheckListed task) → ⊥)
     → AsksNothingWith (codes "check") value
-asks_no_check value checks lists (Check files options) h = checks files options h
-asks_no_check value checks lists (CheckListed log json) h = lists log json h
+asks_no_check value checks lists (Check task) h = checks task h
+asks_no_check value checks lists (CheckListed task) h = lists task h
 asks_no_check value checks lists (Show reply fields hex) h = absurd (other (codes "show") refl h.0)
-asks_no_check value checks lists (ShowCapture file binary fields json) h = absurd (other (codes "show") refl h.0)
-asks_no_check value checks lists (ShowPackets file port fields json) h = absurd (other (codes "show") refl h.0)
+asks_no_check value checks lists (ShowCapture task) h = absurd (other (codes "show") refl h.0)
+asks_no_check value checks lists (ShowPackets task) h = absurd (other (codes "show") refl h.0)
 asks_no_check value checks lists (ShowNv file) h = absurd (other (codes "show") refl h.0)
 asks_no_check value checks lists (Build code handles sessions parameters) h = absurd (other (codes "build") refl h.0)
 asks_no_check value checks lists (Run owner greatest) h = absurd (other (codes "run") refl h.0)
 asks_no_check value checks lists (Explain code) h = absurd (other (codes "explain") refl h.0)
 asks_no_check value checks lists (ExplainName word) h = absurd (other (codes "explain") refl h.0)
-asks_no_check value checks lists (Events log registers places digests event-data json attest options) h =
-    absurd (other (codes "events") refl h.0)
-asks_no_check value checks lists (EventsHeader log json) h = absurd (other (codes "events") refl h.0)
+asks_no_check value checks lists (Events task) h = absurd (other (codes "events") refl h.0)
+asks_no_check value checks lists (EventsHeader task) h = absurd (other (codes "events") refl h.0)
 
 -- No task of `check` has options whose words are not in order.
 pub not_asked : (value : Text → Option Text) → ((options : CheckOptions) → AreOptions value options → ⊥) → AsksNothingWith (codes "check") value
-not_asked value none = asks_no_check value (λ files options h. none options h.2) (λ log json h. none h.1.0 h.1.1)
+not_asked value none = asks_no_check value (λ task h. none task.options h.2) (λ task h. none h.1.0 h.1.1)
 
 -- Neither has words that ask for the banks that are listed, but not for these alone.
 pub not_listed_alone : (value : Text → Option Text) → is_given (value (codes "listed")) ≡ true
     → (is_uncompared value && not (is_given (value (codes "extends")))) ≡ false → AsksNothingWith (codes "check") value
 not_listed_alone value given others =
-    asks_no_check value (λ files options h. opposite_ends (sym given ∙ h.3))
-    (λ log json h. opposite_ends (sym h.3 ∙ others))
+    asks_no_check value (λ task h. opposite_ends (sym given ∙ h.3)) (λ task h. opposite_ends (sym h.3 ∙ others))
 
 -- The name of `events` is no other one.
 other_than_events : (name : Text) → bytes_eq name (codes "events") ≡ false → codes "events" ≡ name → ⊥
@@ -82,19 +82,16 @@ other_than_events name differs e = opposite_ends (ap (λ (x : Text). bytes_eq x 
 
 -- No task has that name but its two.
 asks_no_events : (value : Text → Option Text)
-    → ((log : Bor Text) (registers : Option RegisterList) (places digests event-data json : Bool) (attest : Option (Bor Text))
-    (options : CheckOptions)
-    → AsksWith (codes "events") value (Events log registers places digests event-data json attest options) → ⊥)
-    → ((log : Bor Text) (json : Bool) → AsksWith (codes "events") value (EventsHeader log json) → ⊥)
+    → ((task : EventsTask) → AsksWith (codes "events") value (Events task) → ⊥)
+    → ((task : LogTask) → AsksWith (codes "events") value (EventsHeader task) → ⊥)
     → AsksNothingWith (codes "events") value
-asks_no_events value lists tells (Events log registers places digests event-data json attest options) h =
-    lists log registers places digests event-data json attest options h
-asks_no_events value lists tells (EventsHeader log json) h = tells log json h
-asks_no_events value lists tells (Check files options) h = absurd (other_than_events (codes "check") refl h.0)
-asks_no_events value lists tells (CheckListed log json) h = absurd (other_than_events (codes "check") refl h.0)
+asks_no_events value lists tells (Events task) h = lists task h
+asks_no_events value lists tells (EventsHeader task) h = tells task h
+asks_no_events value lists tells (Check task) h = absurd (other_than_events (codes "check") refl h.0)
+asks_no_events value lists tells (CheckListed task) h = absurd (other_than_events (codes "check") refl h.0)
 asks_no_events value lists tells (Show reply fields hex) h = absurd (other_than_events (codes "show") refl h.0)
-asks_no_events value lists tells (ShowCapture file binary fields json) h = absurd (other_than_events (codes "show") refl h.0)
-asks_no_events value lists tells (ShowPackets file port fields json) h = absurd (other_than_events (codes "show") refl h.0)
+asks_no_events value lists tells (ShowCapture task) h = absurd (other_than_events (codes "show") refl h.0)
+asks_no_events value lists tells (ShowPackets task) h = absurd (other_than_events (codes "show") refl h.0)
 asks_no_events value lists tells (ShowNv file) h = absurd (other_than_events (codes "show") refl h.0)
 asks_no_events value lists tells (Build code handles sessions parameters) h = absurd (other_than_events (codes "build") refl h.0)
 asks_no_events value lists tells (Run owner greatest) h = absurd (other_than_events (codes "run") refl h.0)
@@ -104,8 +101,7 @@ asks_no_events value lists tells (ExplainName word) h = absurd (other_than_event
 -- No task of `events` has options whose words are not in order.
 pub not_listed : (value : Text → Option Text) → ((options : CheckOptions) → AreOptions value options → ⊥) → AsksNothingWith (codes "events") value
 not_listed value none =
-    asks_no_events value (λ log registers places digests event-data json attest options h. none options h.1)
-    (λ log json h. none h.1.0 h.1.1)
+    asks_no_events value (λ task h. none task.options h.1) (λ task h. none h.1.0 h.1.1)
 
 -- Where it is bare no registers are listed.
 bare_registers : (registers attest : Option Text) (places digests event-data : Bool)
@@ -120,32 +116,30 @@ pub no_registers : (value : Text → Option Text) (given : Option Text) → give
 no_registers value given is none =
     let no : (registers : Option RegisterList) → AreListed (value (codes "register")) registers → ⊥ =
     λ registers h. none registers (subst (λ (g : Option Text). AreListed g registers) (sym is) h) in
-    asks_no_events value (λ log registers places digests event-data json attest options h. no registers h.5)
-    (λ log json h. no None (bare_registers (value (codes "register")) (value (codes "attest"))
+    asks_no_events value (λ task h. no task.listing.registers h.5.0)
+    (λ task h. no None (bare_registers (value (codes "register")) (value (codes "attest"))
     (is_given (value (codes "places"))) (is_given (value (codes "digests"))) (is_given (value (codes "data"))) h.3))
 
 -- Neither has words that ask for the header, but not for it alone.
 pub no_header_alone : (value : Text → Option Text) → is_given (value (codes "header")) ≡ true → is_bare value ≡ false
     → AsksNothingWith (codes "events") value
 no_header_alone value given others =
-    asks_no_events value
-    (λ log registers places digests event-data json attest options h. opposite_ends (sym given ∙ h.2))
-    (λ log json h. opposite_ends (sym h.3 ∙ others))
+    asks_no_events value (λ task h. opposite_ends (sym given ∙ h.2)) (λ task h. opposite_ends (sym h.3 ∙ others))
 
 -- the same task, by values that agree
 agrees : (name : Text) (v w : Text → Option Text) → ((id : Text) → v id ≡ w id) → (t : Task) → AsksWith name v t → AsksWith name w t
 agrees name v w same (Show reply fields hex) h = simp same at h
-agrees name v w same (ShowCapture file binary fields json) h = simp same at h
-agrees name v w same (ShowPackets file port fields json) h = simp same at h
+agrees name v w same (ShowCapture task) h = simp same at h
+agrees name v w same (ShowPackets task) h = simp same at h
 agrees name v w same (ShowNv file) h = simp same at h
 agrees name v w same (Build code handles sessions parameters) h = simp same at h
 agrees name v w same (Run owner greatest) h = simp same at h
 agrees name v w same (Explain code) h = simp same at h
 agrees name v w same (ExplainName word) h = simp same at h
-agrees name v w same (Check files options) h = simp same at h
-agrees name v w same (CheckListed log json) h = simp same at h
-agrees name v w same (EventsHeader log json) h = simp same at h
-agrees name v w same (Events log registers places digests event-data json attest options) h = simp same at h
+agrees name v w same (Check task) h = simp same at h
+agrees name v w same (CheckListed task) h = simp same at h
+agrees name v w same (EventsHeader task) h = simp same at h
+agrees name v w same (Events task) h = simp same at h
 
 met : (o : Option (Text × List Row)) (name : Text) (f : Found) (t : Task) → option_map
     (λ (p : Text × List Row). p.0) o ≡ Some name → option_map (λ (p : Text × List Row). p.1) o ≡ Some (rows_of f)

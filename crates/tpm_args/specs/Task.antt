@@ -10,6 +10,8 @@ use Rattle.tpm_types.specs.declared.tpms.Selection.{Selection}
 use Rattle.tpm_types.specs.declared.command_code.CommandCode.{CommandCode}
 use Rattle.tpm_options.specs.declared.CheckFiles.{CheckFiles}
 use Rattle.tpm_options.specs.declared.CheckOptions.{CheckOptions}
+use Rattle.tpm_options.specs.declared.Listing.{Listing}
+use Rattle.tpm_options.specs.declared.LogTask.{LogTask}
 use Rattle.tpm_args.specs.Names.{command_of_name, is_name}
 use Rattle.tpm_names.specs.Numbers.{IsDecimal, IsHexadecimal, IsPort, IsShortDecimal}
 use Rattle.tpm_args.specs.Owner.{IsOwner, bytes_in}
@@ -158,6 +160,19 @@ AreOptions value o =
     × (o.extends ≡ is_given (value (codes "extends")))
     × (o.json ≡ is_given (value (codes "json")))
 
+-- a log, by itself
+abbrev pub IsLog : (Text → Option Text) → LogTask → Type 0
+IsLog value l = (value (codes "LOG") ≡ Some l.log.now) × (l.json ≡ is_given (value (codes "json")))
+
+-- what is listed of one
+abbrev pub IsListing : (Text → Option Text) → Listing → Type 0
+IsListing value l =
+    AreListed (value (codes "register")) l.registers
+    × (l.places ≡ is_given (value (codes "places")))
+    × (l.digests ≡ is_given (value (codes "digests")))
+    × (l.event_data ≡ is_given (value (codes "data")))
+    × (l.json ≡ is_given (value (codes "json")))
+
 -- standard input, by the word `-`, or a file
 abbrev pub IsInput : (word file : Option Text) → Type 0
 IsInput (Some text) None = text ≡ codes "-"
@@ -173,18 +188,18 @@ AsksWith name value (Show reply fields hex) =
     × (value (codes "HEX") ≡ Some hex.now) × (hex.now ≢ codes "-") × (value (codes "file") ≡ None)
     × (is_given (value (codes "binary")) ≡ false) × (is_given (value (codes "json")) ≡ false)
     × (value (codes "nv") ≡ None) × (value (codes "pcap") ≡ None) × (value (codes "port") ≡ None)
-AsksWith name value (ShowCapture file binary fields json) =
+AsksWith name value (ShowCapture c) =
     (name ≡ codes "show")
     × (value (codes "reply") ≡ None)
-    × (fields ≡ is_given (value (codes "fields")))
-    × (value (codes "file") ≡ option_map (λ f. f.now) file) × IsInput (value (codes "HEX")) (value (codes "file"))
-    × (binary ≡ is_given (value (codes "binary"))) × (json ≡ is_given (value (codes "json")))
+    × (c.fields ≡ is_given (value (codes "fields")))
+    × (value (codes "file") ≡ option_map (λ f. f.now) c.file) × IsInput (value (codes "HEX")) (value (codes "file"))
+    × (c.binary ≡ is_given (value (codes "binary"))) × (c.json ≡ is_given (value (codes "json")))
     × (value (codes "nv") ≡ None) × (value (codes "pcap") ≡ None) × (value (codes "port") ≡ None)
-AsksWith name value (ShowPackets file port fields json) =
+AsksWith name value (ShowPackets p) =
     (name ≡ codes "show")
-    × (value (codes "pcap") ≡ Some file.now) × IsPort (unwrap_or (value (codes "port")) (codes "2321")) port
+    × (value (codes "pcap") ≡ Some p.file.now) × IsPort (unwrap_or (value (codes "port")) (codes "2321")) p.port
     × (value (codes "reply") ≡ None)
-    × (fields ≡ is_given (value (codes "fields"))) × (json ≡ is_given (value (codes "json")))
+    × (p.fields ≡ is_given (value (codes "fields"))) × (p.json ≡ is_given (value (codes "json")))
     × (value (codes "HEX") ≡ None) × (value (codes "file") ≡ None)
     × (is_given (value (codes "binary")) ≡ false) × (value (codes "nv") ≡ None)
 AsksWith name value (ShowNv file) =
@@ -205,25 +220,23 @@ AsksWith name value (Explain code) =
     (name ≡ codes "explain") × IsCode (is_given (value (codes "decimal"))) (value (codes "CODE")) code
 AsksWith name value (ExplainName word) =
     (name ≡ codes "explain") × IsName (is_given (value (codes "decimal"))) (value (codes "CODE")) word.now
-AsksWith name value (Check files options) =
-    (name ≡ codes "check") × AreFiles value files × AreOptions value options
+AsksWith name value (Check c) =
+    (name ≡ codes "check") × AreFiles value c.files × AreOptions value c.options
     × (is_given (value (codes "listed")) ≡ false)
-AsksWith name value (CheckListed log json) =
+AsksWith name value (CheckListed l) =
     (name ≡ codes "check") × ((options : CheckOptions) × AreOptions value options)
     × (is_given (value (codes "listed")) ≡ true)
     × ((is_uncompared value && not (is_given (value (codes "extends")))) ≡ true)
-    × (value (codes "LOG") ≡ Some log.now) × (json ≡ is_given (value (codes "json")))
-AsksWith name value (EventsHeader log json) =
+    × IsLog value l
+AsksWith name value (EventsHeader l) =
     (name ≡ codes "events") × ((options : CheckOptions) × AreOptions value options)
     × (is_given (value (codes "header")) ≡ true) × (is_bare value ≡ true)
-    × (value (codes "LOG") ≡ Some log.now) × (json ≡ is_given (value (codes "json")))
-AsksWith name value (Events log registers places digests event-data json attest options) =
-    (name ≡ codes "events") × AreOptions value options × (is_given (value (codes "header")) ≡ false)
-    × (value (codes "attest") ≡ option_map (λ a. a.now) attest)
-    × (value (codes "LOG") ≡ Some log.now)
-    × AreListed (value (codes "register")) registers × (places ≡ is_given (value (codes "places")))
-    × (digests ≡ is_given (value (codes "digests"))) × (event-data ≡ is_given (value (codes "data")))
-    × (json ≡ is_given (value (codes "json")))
+    × IsLog value l
+AsksWith name value (Events e) =
+    (name ≡ codes "events") × AreOptions value e.options × (is_given (value (codes "header")) ≡ false)
+    × (value (codes "attest") ≡ option_map (λ a. a.now) e.attest)
+    × (value (codes "LOG") ≡ Some e.log.now)
+    × IsListing value e.listing
 
 -- the same, of the subcommand that was met, with its matches
 abbrev pub Asks : Option (Text × List Row) → Task → Type 0

@@ -10,17 +10,17 @@ ghost use Rattle.tpm_options.specs.declared.CheckOptions.{CheckOptions as CheckO
 ghost use Rattle.tpm_args.specs.inner.Stop.{IsAsked, IsMemoryOr};
 ghost use Rattle.tpm_args.specs.Task.{AreBytes, AreOptions, DigestsGoTogether, GoTogether, IsHash, IsHashIf};
 ghost use Rattle.tpm_args.specs.Task.{goes_with, has_neither, is_alone, is_uncompared};
-ghost use Rattle.tpm_args.specs.Task.{IsWith, IsWithEither, Requires};
+ghost use Rattle.tpm_args.specs.Task.{IsWith, IsWithEither, Requires, is_given as is_given_by};
 
 use crate::bytes::bytes_in;
 use crate::given::is_given;
-use crate::invalid::{Subcommand, invalid_value, not_hexadecimal, wrong_words};
+use crate::invalid::{Subcommand, Usage, invalid_value, not_hexadecimal, wrong_words};
 use crate::stop::Stop;
 use crate::task::{Asked, Task};
 use clap::ArgMatches;
 use std::alloc::Global;
 use tpm_names::selection::selections;
-use tpm_options::{CheckFiles, CheckOptions};
+use tpm_options::{CheckFiles, CheckOptions, CheckTask, LogTask};
 use tpm_types::{Alg, Selections};
 
 /// The task of the words of `check`.
@@ -30,19 +30,12 @@ pub(crate) fn check_task<'a>(alloc: Global, words: &ArgMatches<'a>) -> Asked<'a>
     let Some(log) = words.get_str("LOG") else {
         return Ok(None);
     };
-    let options = options(alloc, Subcommand::Check, words)?;
+    let usage = Subcommand::Check.usage(alloc);
+    let options = options(usage, words)?;
     if is_given(words, "listed") {
         let alone = is_without(is_uncompared(words), is_given(words, "extends"));
-        check_flag(
-            alloc,
-            Subcommand::Check,
-            alone,
-            "--listed goes with --json alone",
-        )?;
-        return Ok(Some(Task::CheckListed {
-            log,
-            json: is_given(words, "json"),
-        }));
+        check_flag(usage, alone, "--listed goes with --json alone")?;
+        return Ok(Some(Task::CheckListed(log_task(words, log))));
     }
     let files = CheckFiles {
         log,
@@ -50,36 +43,43 @@ pub(crate) fn check_task<'a>(alloc: Global, words: &ArgMatches<'a>) -> Asked<'a>
         attest: words.get_str("attest"),
         allow: words.get_str("allow"),
     };
-    Ok(Some(Task::Check { files, options }))
+    Ok(Some(Task::Check(CheckTask { files, options })))
+}
+
+/// This log, by itself.
+pub(crate) fn log_task<'a>(words: &ArgMatches<'a>, log: &'a str) -> LogTask<'a>
+    ensures { (result.log ≡ log.entry)
+        × (result.json ≡ is_given_by (first_value (found_of words.now) (codes "json"))) }
+{
+    LogTask {
+        log,
+        json: is_given(words, "json"),
+    }
 }
 
 /// What is asked of the files of this subcommand. A usage fault where the words are not in order.
-pub(crate) fn options<'a>(
-    alloc: Global,
-    of: Subcommand,
-    words: &ArgMatches<'a>,
-) -> Result<CheckOptions<'a>, Stop>
+pub(crate) fn options<'a>(usage: Usage, words: &ArgMatches<'a>) -> Result<CheckOptions<'a>, Stop>
     ensures { MatchResult result
         (λ options. AreOptions (first_value (found_of words.now)) options)
         (IsMemoryOr ((options : CheckOptionsValue)
         → AreOptions (first_value (found_of words.now)) options → ⊥)) }
 {
-    check_flags(alloc, of, words)?;
-    check_digests(alloc, of, words)?;
+    check_flags(usage, words)?;
+    check_digests(usage, words)?;
     let attest = words.get_str("attest");
     let nonce = words.get_str("nonce");
-    with_attest(alloc, of, nonce, "--nonce <HEX>", attest)?;
-    let nonce = bytes(alloc, of, nonce, "--nonce <HEX>")?;
+    with_attest(usage, nonce, "--nonce <HEX>", attest)?;
+    let nonce = bytes(usage, nonce, "--nonce <HEX>")?;
     let list = words.get_str("require");
-    with_attest(alloc, of, list, "--require <LIST>", attest)?;
-    let required = required(alloc, of, list)?;
+    with_attest(usage, list, "--require <LIST>", attest)?;
+    let required = required(usage, list)?;
     let signer = words.get_str("signer");
-    with_attest(alloc, of, signer, "--signer <HEX>", attest)?;
-    let signer = bytes(alloc, of, signer, "--signer <HEX>")?;
+    with_attest(usage, signer, "--signer <HEX>", attest)?;
+    let signer = bytes(usage, signer, "--signer <HEX>")?;
     let name = words.get_str("hash");
-    let hash = hash(alloc, of, name)?;
+    let hash = hash(usage, name)?;
     let quote = words.get_str("quote");
-    with_quote(alloc, of, name, quote, attest)?;
+    with_quote(usage, name, quote, attest)?;
     Ok(CheckOptions {
         nonce,
         any_nonce: is_given(words, "any-nonce"),
@@ -96,52 +96,44 @@ pub(crate) fn options<'a>(
 }
 
 // A usage fault where a flag is given beside words with which it doesn't go.
-fn check_flags(alloc: Global, of: Subcommand, words: &ArgMatches<'_>) -> Result<(), Stop>
+fn check_flags(usage: Usage, words: &ArgMatches<'_>) -> Result<(), Stop>
     ensures { MatchResult result (λ _. GoTogether (first_value (found_of words.now)))
         (IsMemoryOr (GoTogether (first_value (found_of words.now)) → ⊥)) }
 {
     let attest = has(words, "attest");
     let secure_boot = is_given(words, "secure-boot");
     let reason = "--secure-boot goes with neither --registers nor --quote";
-    check_flag(
-        alloc,
-        of,
-        goes_with(secure_boot, has_neither(words)),
-        reason,
-    )?;
+    check_flag(usage, goes_with(secure_boot, has_neither(words)), reason)?;
     let any_state = is_given(words, "any-state");
     let reason = "--any-state goes with --secure-boot";
-    check_flag(alloc, of, goes_with(any_state, secure_boot), reason)?;
+    check_flag(usage, goes_with(any_state, secure_boot), reason)?;
     let without_nonce = is_without(attest, has(words, "nonce"));
     let reason = "--any-nonce goes with --attest, and not with --nonce";
     check_flag(
-        alloc,
-        of,
+        usage,
         goes_with(is_given(words, "any-nonce"), without_nonce),
         reason,
     )?;
     let without_list = is_without(attest, has(words, "require"));
     let reason = "--any-selection goes with --attest, and not with --require";
     check_flag(
-        alloc,
-        of,
+        usage,
         goes_with(is_given(words, "any-selection"), without_list),
         reason,
     )
 }
 
 // The same of a list of allowed digests, and of what a log extends.
-fn check_digests(alloc: Global, of: Subcommand, words: &ArgMatches<'_>) -> Result<(), Stop>
+fn check_digests(usage: Usage, words: &ArgMatches<'_>) -> Result<(), Stop>
     ensures { MatchResult result (λ _. DigestsGoTogether (first_value (found_of words.now)))
         (IsMemoryOr (DigestsGoTogether (first_value (found_of words.now)) → ⊥)) }
 {
     let beside = are_both(has(words, "attest"), has_neither(words));
     let reason = "--allow goes with --attest, and with neither --registers nor --quote";
-    check_flag(alloc, of, goes_with(has(words, "allow"), beside), reason)?;
+    check_flag(usage, goes_with(has(words, "allow"), beside), reason)?;
     let reason = "--extends goes alone";
     check_flag(
-        alloc,
-        of,
+        usage,
         goes_with(is_given(words, "extends"), is_alone(words)),
         reason,
     )
@@ -203,24 +195,18 @@ fn goes_with(flag: bool, holds: bool) -> bool
 }
 
 /// A usage fault for this reason, where that doesn't hold.
-pub(crate) fn check_flag(
-    alloc: Global,
-    of: Subcommand,
-    holds: bool,
-    reason: &str,
-) -> Result<(), Stop>
+pub(crate) fn check_flag(usage: Usage, holds: bool, reason: &str) -> Result<(), Stop>
     ensures { MatchResult result (λ _. holds ≡ true) (IsMemoryOr (holds ≡ false)) }
 {
     if holds {
         return Ok(());
     }
-    Err(wrong_words(alloc, of, reason))
+    Err(wrong_words(usage, reason))
 }
 
 // A usage fault where this word is given without a quote as it was signed.
 fn with_attest(
-    alloc: Global,
-    of: Subcommand,
+    usage: Usage,
     given: Option<&str>,
     word: &str,
     attest: Option<&str>,
@@ -233,19 +219,14 @@ fn with_attest(
     match (given, attest) {
         (Some(text), None) => {
             let reason = "no --attest is given";
-            Err(invalid_value(alloc, of, text, word, reason))
+            Err(invalid_value(usage, text, word, reason))
         }
         _ => Ok(()),
     }
 }
 
 // The bytes of hexadecimal digits, where they are given. A usage fault where they are none.
-fn bytes(
-    alloc: Global,
-    of: Subcommand,
-    text: Option<&str>,
-    word: &str,
-) -> Result<Option<Vec<u8>>, Stop>
+fn bytes(usage: Usage, text: Option<&str>, word: &str) -> Result<Option<Vec<u8>>, Stop>
     ensures { MatchResult result (λ bytes. AreBytes (option_map (λ t. t.now) text.entry) bytes)
         (IsMemoryOr ((bytes : Option (VecValue ℕ))
         → AreBytes (option_map (λ t. t.now) text.entry) bytes → ⊥)) }
@@ -253,9 +234,9 @@ fn bytes(
     let Some(text) = text else {
         return Ok(None);
     };
-    match bytes_in(alloc, text)? {
+    match bytes_in(usage.alloc, text)? {
         Some(bytes) => Ok(Some(bytes)),
-        None => Err(not_hexadecimal(alloc, of, text, word)),
+        None => Err(not_hexadecimal(usage, text, word)),
     }
 }
 
@@ -269,8 +250,7 @@ fn without_quote(of: Subcommand) -> &'static str {
 
 // A usage fault where a hash is given without a quote.
 fn with_quote(
-    alloc: Global,
-    of: Subcommand,
+    usage: Usage,
     name: Option<&str>,
     quote: Option<&str>,
     attest: Option<&str>,
@@ -282,15 +262,15 @@ fn with_quote(
 {
     match (name, quote, attest) {
         (Some(text), None, None) => {
-            let reason = without_quote(of);
-            Err(invalid_value(alloc, of, text, "--hash <NAME>", reason))
+            let reason = without_quote(usage.of);
+            Err(invalid_value(usage, text, "--hash <NAME>", reason))
         }
         _ => Ok(()),
     }
 }
 
 // The registers that a list names, where it is given. A usage fault where it is none.
-fn required(alloc: Global, of: Subcommand, list: Option<&str>) -> Result<Option<Selections>, Stop>
+fn required(usage: Usage, list: Option<&str>) -> Result<Option<Selections>, Stop>
     ensures { MatchResult result
         (λ required. Requires (option_map (λ l. l.now) list.entry) required)
         (IsMemoryOr ((required : Option (List SelectionValue))
@@ -303,7 +283,7 @@ fn required(alloc: Global, of: Subcommand, list: Option<&str>) -> Result<Option<
         Some(required) => Ok(Some(required)),
         None => {
             let reason = "it is no list of registers, as sha1:7+sha256:0,1,2 or sha256:all";
-            Err(invalid_value(alloc, of, text, "--require <LIST>", reason))
+            Err(invalid_value(usage, text, "--require <LIST>", reason))
         }
     }
 }
@@ -317,7 +297,7 @@ fn hash_named(text: &str) -> Option<Alg>
 }
 
 // The hash of this name, where it is given. A usage fault where none has it.
-fn hash(alloc: Global, of: Subcommand, name: Option<&str>) -> Result<Option<Alg>, Stop>
+fn hash(usage: Usage, name: Option<&str>) -> Result<Option<Alg>, Stop>
     ensures { MatchResult result (λ hash. IsHashIf (option_map (λ n. n.now) name.entry) hash)
         (IsMemoryOr ((hash : Option AlgValue)
         → IsHashIf (option_map (λ n. n.now) name.entry) hash → ⊥)) }
@@ -329,7 +309,7 @@ fn hash(alloc: Global, of: Subcommand, name: Option<&str>) -> Result<Option<Alg>
         Some(hash) => Ok(Some(hash)),
         None => {
             let reason = "it is none of sha1, sha256 and sha384";
-            Err(invalid_value(alloc, of, text, "--hash <NAME>", reason))
+            Err(invalid_value(usage, text, "--hash <NAME>", reason))
         }
     }
 }

@@ -5,14 +5,13 @@ ghost use Rattle.tpm_names.specs.declared.selection.RegisterList.{RegisterList a
 ghost use Rattle.tpm_args.specs.inner.Stop.{IsMemoryOr};
 ghost use Rattle.tpm_args.specs.Task.{AreListed};
 
-use crate::invalid::{Subcommand, invalid_value};
+use crate::invalid::{Usage, invalid_value};
 use crate::stop::Stop;
-use std::alloc::Global;
 use tpm_names::selection::RegisterList;
 
 /// The registers that alone are listed, where they are given. A usage fault where the text lists none.
 pub(crate) fn registers<'a>(
-    alloc: Global,
+    usage: Usage,
     text: Option<&'a str>,
 ) -> Result<Option<RegisterList<'a>>, Stop>
     ensures { MatchResult result
@@ -27,7 +26,7 @@ pub(crate) fn registers<'a>(
         Some(registers) => Ok(Some(registers)),
         None => {
             let reason = "it is no list of registers, as 7 or 4,7 or 0-7, up to 23";
-            Err(invalid_value(alloc, Subcommand::Events, text, "--register <LIST>", reason))
+            Err(invalid_value(usage, text, "--register <LIST>", reason))
         }
     }
 }

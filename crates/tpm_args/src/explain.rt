@@ -92,5 +92,5 @@ fn no_code(alloc: Global, words: &ArgMatches<'_>) -> Stop
     } else {
         "it is no hexadecimal number up to ffffffff"
     };
-    invalid_value(alloc, Subcommand::Explain, text, "<CODE>", reason)
+    invalid_value(Subcommand::Explain.usage(alloc), text, "<CODE>", reason)
 }

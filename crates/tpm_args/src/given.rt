@@ -10,7 +10,7 @@ ghost use Rattle.tpm_args.specs.inner.Stop.{IsAsked, IsMemoryOr};
 ghost use Rattle.tpm_args.specs.Task.{is_given as is_given_by, is_bare, Asks, AsksNothing, AsksWith};
 ghost use Rattle.tpm_args.specs.inner.Task.{AsksNothingWith};
 
-use crate::check::{check_flag, check_task, has, is_without, options};
+use crate::check::{check_flag, check_task, has, is_without, log_task, options};
 use crate::events::registers;
 use crate::explain::explain_task;
 use crate::invalid::{Subcommand, no_command};
@@ -24,6 +24,7 @@ use clap::error::ErrorKind;
 use clap::{ArgMatches, Command, Error};
 use std::alloc::{AllocError, Global};
 use std::marker::Model;
+use tpm_options::{EventsTask, Listing};
 use tpm_words::program_words;
 
 /// The words of a run.
@@ -145,7 +146,7 @@ fn build_asked<'a>(alloc: Global, words: &ArgMatches<'a>) -> Asked<'a>
         Some(task) => Ok(Some(task)),
         None => {
             let name = words.get_str("NAME").unwrap_or("");
-            Err(no_command(alloc, Subcommand::Build, name, "<NAME>"))
+            Err(no_command(Subcommand::Build.usage(alloc), name, "<NAME>"))
         }
     }
 }
@@ -166,26 +167,27 @@ fn events_task<'a>(alloc: Global, words: &ArgMatches<'a>) -> Asked<'a>
     let Some(log) = words.get_str("LOG") else {
         return Ok(None);
     };
-    let registers = registers(alloc, words.get_str("register"))?;
-    let options = options(alloc, Subcommand::Events, words)?;
+    let usage = Subcommand::Events.usage(alloc);
+    let registers = registers(usage, words.get_str("register"))?;
+    let options = options(usage, words)?;
     if is_given(words, "header") {
         let reason = "--header goes with --json alone";
-        check_flag(alloc, Subcommand::Events, is_bare(words), reason)?;
-        return Ok(Some(Task::EventsHeader {
-            log,
-            json: is_given(words, "json"),
-        }));
+        check_flag(usage, is_bare(words), reason)?;
+        return Ok(Some(Task::EventsHeader(log_task(words, log))));
     }
-    Ok(Some(Task::Events {
-        log,
+    let listing = Listing {
         registers,
         places: is_given(words, "places"),
         digests: is_given(words, "digests"),
         event_data: is_given(words, "data"),
         json: is_given(words, "json"),
+    };
+    Ok(Some(Task::Events(EventsTask {
+        log,
         attest: words.get_str("attest"),
+        listing,
         options,
-    }))
+    })))
 }
 
 // What the words of the subcommand of this name ask for.

@@ -23,36 +23,47 @@ pub(crate) enum Subcommand {
     Events,
 }
 
+/// What the text of a usage fault wants: a subcommand, and memory.
+#[derive(Clone, Copy)]
+pub(crate) struct Usage {
+    pub(crate) of: Subcommand,
+    pub(crate) alloc: Global,
+}
+
+impl Subcommand {
+    pub(crate) fn usage(self, alloc: Global) -> Usage {
+        Usage { of: self, alloc }
+    }
+}
+
 /// The usage fault of a word's value.
-pub(crate) fn invalid_value(
-    alloc: Global,
-    subcommand: Subcommand,
-    text: &str,
-    word: &str,
-    reason: &str,
-) -> Stop
+pub(crate) fn invalid_value(usage: Usage, text: &str, word: &str, reason: &str) -> Stop
     ensures { IsMemoryOr (Unit {0}) result }
 {
-    match format!(in alloc; "invalid value '{text}' for '{word}': {reason}") {
-        Ok(message) => wrong_words(alloc, subcommand, message.as_str()),
+    match format!(in usage.alloc; "invalid value '{text}' for '{word}': {reason}") {
+        Ok(message) => wrong_words(usage, message.as_str()),
         Err(AllocError) => Stop::Memory,
     }
 }
 
 /// The usage fault of a word that is not hexadecimal.
-pub(crate) fn not_hexadecimal(alloc: Global, subcommand: Subcommand, text: &str, word: &str) -> Stop
+pub(crate) fn not_hexadecimal(usage: Usage, text: &str, word: &str) -> Stop
     ensures { IsMemoryOr (Unit {0}) result }
 {
-    let reason = "it is not hexadecimal, two digits to a byte";
-    invalid_value(alloc, subcommand, text, word, reason)
+    invalid_value(
+        usage,
+        text,
+        word,
+        "it is not hexadecimal, two digits to a byte",
+    )
 }
 
 /// The usage fault of a word that names no command.
-pub(crate) fn no_command(alloc: Global, subcommand: Subcommand, text: &str, word: &str) -> Stop
+pub(crate) fn no_command(usage: Usage, text: &str, word: &str) -> Stop
     ensures { IsMemoryOr (Unit {0}) result }
 {
-    match none_of(alloc) {
-        Ok(reason) => invalid_value(alloc, subcommand, text, word, reason.as_str()),
+    match none_of(usage.alloc) {
+        Ok(reason) => invalid_value(usage, text, word, reason.as_str()),
         Err(AllocError) => Stop::Memory,
     }
 }
@@ -63,23 +74,24 @@ fn none_of(alloc: Global) -> Result<String, AllocError> {
 }
 
 /// The usage fault of words for this reason, as of words that don't go together.
-pub(crate) fn wrong_words(alloc: Global, subcommand: Subcommand, reason: &str) -> Stop
+pub(crate) fn wrong_words(usage: Usage, reason: &str) -> Stop
     ensures { IsMemoryOr (Unit {0}) result }
 {
-    match wrong_error(alloc, subcommand, reason) {
-        Ok(error) => Stop::of(alloc, &error),
+    match wrong_error(usage, reason) {
+        Ok(error) => Stop::of(usage.alloc, &error),
         Err(AllocError) => Stop::Memory,
     }
 }
 
-fn wrong_error(alloc: Global, subcommand: Subcommand, reason: &str) -> Result<Error, AllocError>
+fn wrong_error(usage: Usage, reason: &str) -> Result<Error, AllocError>
     ensures { IfOk result (λ e. kind_of e ≡ ValueValidation) }
 {
-    words_of(alloc, subcommand)?.error(ErrorKind::ValueValidation, reason)
+    words_of(usage)?.error(ErrorKind::ValueValidation, reason)
 }
 
-fn words_of<'a>(alloc: Global, subcommand: Subcommand) -> Result<Command<'a>, AllocError> {
-    match subcommand {
+fn words_of<'a>(usage: Usage) -> Result<Command<'a>, AllocError> {
+    let Usage { of, alloc } = usage;
+    match of {
         Subcommand::Show => show_words(alloc, ""),
         Subcommand::Build => build_words(alloc, ""),
         Subcommand::Run => run_words(alloc),

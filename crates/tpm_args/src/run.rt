@@ -30,12 +30,9 @@ fn owner(alloc: Global, text: &str) -> Result<AuthValue, Stop>
 {
     match owner_value(alloc, text) {
         Ok(owner) => Ok(owner),
-        Err(OwnerFault::NotHexadecimal) => Err(not_hexadecimal(
-            alloc,
-            Subcommand::Run,
-            text,
-            "--owner <HEX>",
-        )),
+        Err(OwnerFault::NotHexadecimal) => {
+            Err(not_hexadecimal(Subcommand::Run.usage(alloc), text, "--owner <HEX>"))
+        }
         Err(OwnerFault::TooLong) => Err(too_long(alloc, text)),
         Err(OwnerFault::OutOfMemory) => Err(Stop::Memory),
     }
@@ -50,20 +47,17 @@ fn greatest(alloc: Global, text: &str) -> Result<u64, Stop>
         return Ok(greatest);
     }
     let reason = "it is no decimal number up to 18446744073709551615";
-    Err(invalid_value(alloc, Subcommand::Run, text, "--greatest <N>", reason))
+    Err(invalid_value(Subcommand::Run.usage(alloc), text, "--greatest <N>", reason))
 }
 
 fn too_long(alloc: Global, text: &str) -> Stop
     ensures { IsMemoryOr (Unit {0}) result }
 {
     match format!(in alloc; "it has more than {DIGEST_BYTES} bytes") {
-        Ok(reason) => invalid_value(
-            alloc,
-            Subcommand::Run,
-            text,
-            "--owner <HEX>",
-            reason.as_str(),
-        ),
+        Ok(reason) => {
+            let usage = Subcommand::Run.usage(alloc);
+            invalid_value(usage, text, "--owner <HEX>", reason.as_str())
+        }
         Err(AllocError) => Stop::Memory,
     }
 }

@@ -14,6 +14,7 @@ use crate::task::{Asked, Task};
 use clap::ArgMatches;
 use std::alloc::Global;
 use tpm_names::number::port;
+use tpm_options::{CaptureTask, PacketsTask};
 
 /// The port of a simulator where none is given: mssim's for commands, and swtpm's for data.
 const PORT: &str = "2321";
@@ -33,12 +34,12 @@ fn shown_packets<'a>(words: &ArgMatches<'a>, file: &'a str) -> Option<Task<'a>>
     {
         return None;
     }
-    Some(Task::ShowPackets {
+    Some(Task::ShowPackets(PacketsTask {
         file,
         port: port(words.get_str("port").unwrap_or(PORT))?,
         fields: is_given(words, "fields"),
         json: is_given(words, "json"),
-    })
+    }))
 }
 
 // A buffer. None where no command has the name of the response's, and where it is to be read as a stream or printed as
@@ -75,12 +76,12 @@ fn shown_capture<'a>(words: &ArgMatches<'a>, file: Option<&'a str>) -> Option<Ta
     if words.get_str("reply").is_some() {
         return None;
     }
-    Some(Task::ShowCapture {
+    Some(Task::ShowCapture(CaptureTask {
         file,
         binary: is_given(words, "binary"),
         fields: is_given(words, "fields"),
         json: is_given(words, "json"),
-    })
+    }))
 }
 
 // Kept NV memory. None where it is to be told by another option.
@@ -171,16 +172,15 @@ fn is_port(words: &ArgMatches<'_>) -> bool {
 fn not_shown(alloc: Global, words: &ArgMatches<'_>) -> Stop
     ensures { IsMemoryOr (Unit {0}) result }
 {
+    let usage = Subcommand::Show.usage(alloc);
     match words.get_str("reply") {
-        Some(name) if command_named(name).is_none() => {
-            no_command(alloc, Subcommand::Show, name, "--reply <NAME>")
-        }
+        Some(name) if command_named(name).is_none() => no_command(usage, name, "--reply <NAME>"),
         _ if !is_port(words) => {
             let text = words.get_str("port").unwrap_or("");
             let reason = "it is no decimal number up to 65535";
-            invalid_value(alloc, Subcommand::Show, text, "--port <N>", reason)
+            invalid_value(usage, text, "--port <N>", reason)
         }
-        _ => wrong_words(alloc, Subcommand::Show, fault(words)),
+        _ => wrong_words(usage, fault(words)),
     }
 }
 

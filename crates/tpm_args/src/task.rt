@@ -1,8 +1,7 @@
 //! What the words ask for.
 
 use crate::stop::Stop;
-use tpm_names::selection::RegisterList;
-use tpm_options::{CheckFiles, CheckOptions};
+use tpm_options::{CaptureTask, CheckTask, EventsTask, LogTask, PacketsTask};
 use tpm_types::{AuthValue, CommandCode};
 
 /// What the words of a subcommand ask for, if anything.
@@ -22,27 +21,9 @@ pub enum Task<'a> {
     },
     /// `show [--binary] [--fields] [--json] -` and `show [--binary] [--fields] [--json] --file
     /// FILE`: print each frame of a capture.
-    ShowCapture {
-        /// The path of the capture, or none where it is on standard input.
-        file: Option<&'a str>,
-        /// Whether it is a stream of frames in place of lines.
-        binary: bool,
-        /// Whether each parameter is printed by its name and its type, too.
-        fields: bool,
-        /// Whether each frame is printed as an object of JSON.
-        json: bool,
-    },
+    ShowCapture(CaptureTask<'a>),
     /// `show [--fields] [--json] --pcap FILE [--port N]`: print each frame that went over a simulator's port.
-    ShowPackets {
-        /// The path of the packets, a file of libpcap.
-        file: &'a str,
-        /// The port.
-        port: u16,
-        /// Whether each parameter is printed by its name and its type, too.
-        fields: bool,
-        /// Whether each frame is printed as an object of JSON.
-        json: bool,
-    },
+    ShowPackets(PacketsTask<'a>),
     /// `show --nv FILE`: print the NV memory of a device that is kept.
     ShowNv {
         /// The path of its bytes.
@@ -81,44 +62,12 @@ pub enum Task<'a> {
     /// `check LOG ..`: print the registers that a log gives, or compare them; or, with `--secure-boot`, print whether
     /// Secure Boot was on in the boot that the log tells of; or, with `--extends`, by which digests it extends
     /// registers.
-    Check {
-        /// The files.
-        files: CheckFiles<'a>,
-        /// What is asked of them.
-        options: CheckOptions<'a>,
-    },
+    Check(CheckTask<'a>),
     /// `check LOG --listed [--json]`: print the registers that a log gives in the banks that its header lists.
-    CheckListed {
-        /// The path of the log.
-        log: &'a str,
-        /// Whether they are printed as an object of JSON.
-        json: bool,
-    },
+    CheckListed(LogTask<'a>),
     /// `events LOG --header [--json]`: print what the header of a log says.
-    EventsHeader {
-        /// The path of the log.
-        log: &'a str,
-        /// Whether it is printed as an object of JSON.
-        json: bool,
-    },
+    EventsHeader(LogTask<'a>),
     /// `events LOG [--register LIST] [--places] [--digests] [--data] [--json]`: print the records of a log; or, with
     /// `--attest`, what a quote says as it was signed, and then the records, with what that vouches for.
-    Events {
-        /// The path of the log.
-        log: &'a str,
-        /// The registers whose records alone are printed.
-        registers: Option<RegisterList<'a>>,
-        /// Whether each record is printed with its place.
-        places: bool,
-        /// Whether it is printed with its digests.
-        digests: bool,
-        /// Whether it is printed with its data.
-        event_data: bool,
-        /// Whether it is printed as an object of JSON.
-        json: bool,
-        /// The path of the quote.
-        attest: Option<&'a str>,
-        /// What is expected of it.
-        options: CheckOptions<'a>,
-    },
+    Events(EventsTask<'a>),
 }

@@ -1,4 +1,4 @@
--- What `check --attest --allow` prints of a log (this profile).
+-- What is printed of a log beside a quote, and a list of allowed digests (this profile).
 use Rattle.std.specs.Prelude.{◌⊎◌, ℕ, Bool, true, false, nat_lt, List, [], length, map, Ok, Err}
 use Rattle.std.specs.Prelude.{IsPermutation, Option, Some, None}
 use Rattle.tpm_types.specs.declared.tpms.Selection.{Selection}
@@ -98,12 +98,3 @@ ChecksBeside o g bytes status text =
     × Replays AreAfter bytes (Ok found)
     × SaysBeside o g found l (printed status text))
     ⊎ TellsFault o.json bytes status text
-
--- the bytes of a quote as it was signed, and those of a list
-pub record AllowFiles : Type 0 where
-  pub attest : List ℕ
-  pub allow : List ℕ
-
-abbrev pub ChecksAllowed : CheckOptions → AllowFiles → List ℕ → Status → List ℕ → Type 0
-ChecksAllowed o g bytes status text =
-    ChecksBeside o (record { attest = g.attest; allow = Some g.allow }) bytes status text

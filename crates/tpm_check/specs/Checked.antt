@@ -9,20 +9,17 @@ use Rattle.tpm_output.specs.declared.status.Status.TheVariants.{Done, Refused}
 use Rattle.tpm_output.specs.declared.status.Status.{Status}
 use Rattle.tpm_output.specs.Status.{both}
 use Rattle.tpm_output.specs.Text.{bytes_in}
+use Rattle.tpm_check.specs.Asked.{Asked}
 use Rattle.tpm_check.specs.Compare.{Beside, Comparison, Verdict, beside, compared, printed}
 use Rattle.tpm_check.specs.CheckJson.{ok_text, registers_told}
 use Rattle.tpm_events.specs.LogFaults.{fault_text}
 use Rattle.tpm_check.specs.Check.{ChecksQuote, ReadsIfList}
 use Rattle.tpm_check.specs.CheckAttest.{ChecksAttest}
 
--- what is given besides the options: the bytes of a quote as it was signed, and those of a list
-pub record Given : Type 0 where
-  pub attest : Option (List ℕ)
-  pub list : Option (List ℕ)
-
 -- What the quote as it was signed says comes first, where there is one.
-abbrev pub ChecksSigned : Beside → CheckOptions → (attest : Option (List ℕ)) → Verdict → Type 0
-ChecksSigned b o attest v = MatchOption attest ((v.status ≡ Done) × (v.text ≡ [])) (λ bytes. ChecksAttest b o bytes v)
+abbrev pub ChecksSigned : Beside → Asked → Verdict → Type 0
+ChecksSigned b a v =
+    MatchOption a.attest ((v.status ≡ Done) × (v.text ≡ [])) (λ bytes. ChecksAttest b a.options bytes v)
 
 -- the registers, where they are compared with nothing
 abbrev pub registers_if : Beside → (others : Bool) → List ℕ
@@ -46,32 +43,31 @@ ChecksBehind b o others list v =
     × (v.status ≡ both second third.status)
     × (v.text ≡ list.text ++ third.text))
 
-abbrev pub ChecksAll : Beside → CheckOptions → Given → Verdict → Type 0
-ChecksAll b o g v =
+abbrev pub ChecksAll : Beside → Asked → (list : Option (List ℕ)) → Verdict → Type 0
+ChecksAll b a list v =
     (first second : Verdict)
-    × ChecksSigned b o g.attest first
-    × ChecksBehind b o (is_some g.attest || is_some g.list) (compared b g.list) second
+    × ChecksSigned b a first
+    × ChecksBehind b a.options (is_some a.attest || is_some list) (compared b list) second
     × (v.status ≡ both first.status second.status)
     × (v.text ≡ first.text ++ second.text)
 
 -- Behind that stands the status, where it is told as objects.
-abbrev pub ChecksToEnd : Beside → CheckOptions → Given → Verdict → Type 0
-ChecksToEnd b o g v =
-    (told : List ℕ) × ChecksAll b o g (printed v.status told) × (v.text ≡ told ++ ok_text b.json v.status)
+abbrev pub ChecksToEnd : Beside → Asked → (list : Option (List ℕ)) → Verdict → Type 0
+ChecksToEnd b a list v =
+    (told : List ℕ) × ChecksAll b a list (printed v.status told) × (v.text ≡ told ++ ok_text b.json v.status)
 
--- what is compared with a log: the bytes of a quote as it was signed, and a list by what was to come of it and what is
+-- what a log is checked for, beside a list by what was to come of it and what is
 pub record Checking : Type 0 where
-  pub options : CheckOptions
-  pub attest : Option (List ℕ)
+  pub asked : Asked
   pub list : Option (Option (List ℕ))
   pub list-behind : Option (Option (List ℕ))
 
 -- For what the log gives this is the status and the text. A fault ends the output, and a list is not read behind it.
 abbrev pub ChecksLog : Checking → Result Registers LogFault → Status → List ℕ → Type 0
-ChecksLog k (Ok found) status text = let b = beside k.options.json (value_in found.banks) in
+ChecksLog k (Ok found) status text = let b = beside k.asked.options.json (value_in found.banks) in
     (list : Option (List ℕ))
     × ReadsIfList b k.list k.list-behind list
-    × ChecksToEnd b k.options (record { attest = k.attest; list = list }) (printed status text)
-ChecksLog k (Err fault) status text =
+    × ChecksToEnd b k.asked list (printed status text)
+ChecksLog k (Err fault) status text = let json = k.asked.options.json in
     (k.list-behind ≡ k.list) × IsOfBytes fault.kind × (status ≡ Refused)
-    × (text ≡ fault_text k.options.json fault ++ ok_text k.options.json Refused)
+    × (text ≡ fault_text json fault ++ ok_text json Refused)

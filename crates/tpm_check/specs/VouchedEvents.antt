@@ -1,5 +1,5 @@
--- What `events --attest` prints of a log (this profile).
-use Rattle.std.specs.Prelude.{◌⊎◌, ℕ, List, ◌++◌, length, map, Ok, Some}
+-- What `events` prints of a log, beside a quote or by itself (this profile).
+use Rattle.std.specs.Prelude.{◌⊎◌, ℕ, List, ◌++◌, length, map, MatchOption, Ok, Some}
 use Rattle.tpm_wire.specs.Path.{Spells}
 use Rattle.tpm_types.specs.declared.tpms.Selection.{Selection}
 use Rattle.tpm_pcr.specs.Registers.{Registers, value_in}
@@ -11,8 +11,9 @@ use Rattle.tpm_log.specs.Replays.{Replays}
 use Rattle.tpm_options.specs.declared.CheckOptions.{CheckOptions}
 use Rattle.tpm_output.specs.declared.status.Status.TheVariants.{Done}
 use Rattle.tpm_output.specs.declared.status.Status.{Status}
-use Rattle.tpm_events.specs.declared.listed_events.Listing.{Listing}
-use Rattle.tpm_events.specs.ListEvents.{events_from}
+use Rattle.tpm_options.specs.declared.Listing.{Listing}
+use Rattle.tpm_events.specs.ListEvents.{ListsEvents, events_from}
+use Rattle.tpm_check.specs.Asked.{Asked}
 use Rattle.tpm_check.specs.CheckAttest.{ChecksAttest, OnDone, Says, Selects}
 use Rattle.tpm_check.specs.Compare.{Verdict, beside, printed}
 use Rattle.tpm_check.specs.SecureBootLines.{TellsFault, ended}
@@ -45,3 +46,9 @@ ListsVouched q bytes status text =
     (λ selections. events_from q.listing (Some selections) (length bytes) 1 (map shown records))
     (ended q.listing.json said) (printed status text))
     ⊎ TellsFault q.listing.json bytes status text
+
+-- Without a quote they stand alone.
+abbrev pub ListsBeside : Listing → Asked → List ℕ → Status → List ℕ → Type 0
+ListsBeside listing a bytes status text =
+    MatchOption a.attest (ListsEvents listing bytes status text) (λ attest.
+    ListsVouched (record { listing = listing; attest = attest; options = a.options }) bytes status text)

@@ -1,16 +1,11 @@
 //! The subcommand `check` of a list of allowed digests, beside a quote as it was signed.
 
-ghost use Rattle.std.specs.Prelude.{◌≡◌, ℕ, List, Ok, Some, IfOk, IsErrOf, option_map, string_bytes};
+ghost use Rattle.std.specs.Prelude.{◌≡◌, ℕ, List, Ok, Some, IfOk, option_map, string_bytes};
 ghost use Rattle.std.specs.Io.KnownBytes.{Appends};
-ghost use Rattle.tpm_wire.specs.Sources.{IsWhereItFailed};
-ghost use Rattle.tpm_output.specs.declared.fault.ToolFault.TheVariants.{InputTooLong, Read};
 ghost use Rattle.tpm_output.specs.declared.status.Status.TheVariants.{Refused};
 ghost use Rattle.tpm_output.specs.Faults.{FailsByMemoryOrWrite};
-ghost use Rattle.tpm_output.specs.InputLines.{CountsRead};
-ghost use Rattle.tpm_output.specs.Reads.{ReadsNoMore, ReadsUpTo};
-ghost use Rattle.tpm_events.specs.ListEvents.{most_read};
 ghost use Rattle.tpm_check.specs.AllowTold.{too_long_text};
-ghost use Rattle.tpm_check.specs.AllowedBoot.{ChecksAllowed, ChecksBeside, SaysBehind, SaysBeside, SaysOfList};
+ghost use Rattle.tpm_check.specs.AllowedBoot.{ChecksBeside, SaysBehind, SaysBeside, SaysOfList};
 ghost use Rattle.tpm_check.specs.AllowedBoot.{SaysOfRead, SaysOfSelected, on_boot};
 ghost use Rattle.tpm_check.specs.inner.CheckAttest.{Adds};
 ghost use Rattle.tpm_check.specs.Compare.{Verdict, not_a_register_text, printed};
@@ -28,16 +23,13 @@ use crate::replayed::{ReplayedLog, replayed};
 use crate::told_secure_boot::push_log;
 use std::alloc::{AllocError, Global};
 use std::io::Write;
-use tpm_events::listed_events::MOST_READ;
 use tpm_log::Log;
 use tpm_options::CheckOptions;
 use tpm_output::answer::Answer;
 use tpm_output::fault::ToolFault;
-use tpm_output::reads::read_up_to;
 use tpm_output::status::Status;
 use tpm_types::Selections;
 use tpm_vouched::{AllowList, AllowedDigest};
-use tpm_wire::Source;
 
 // What is printed of a log beside these digests.
 fn answer_to_digests(
@@ -210,57 +202,4 @@ pub(crate) fn print_beside<W: Write>(
         Ok(found) => answer_beside(alloc, options, attest, allow, &found)?.print(out),
         Err(fault) => tell_fault(alloc, options.json, &fault, out),
     }
-}
-
-/// Prints whether all digests by which a log extends registers are on a list, of the registers that the list names,
-/// beside the bytes of a quote as it was signed.
-///
-/// What `check_log` prints of such a quote comes first. A quote that is not the one asked for ends the output, since it
-/// vouches for nothing. Behind it comes what `check_secure_boot` says of the banks whose register 7 the quote selects,
-/// where that is asked for too. The log is read and replayed once, so that all is told of the very log whose registers
-/// were compared.
-///
-/// The list's lines are `BANK I DIGEST`, with as many words behind as one likes, several for one register; `#` begins a
-/// comment, and what is before it may be blank. `selection lacks BANK I` is printed for the first register of a bank
-/// that the list names and the quote doesn't select, and ends the output. Else for each register that the list names,
-/// by bank and number, comes `allowed BANK I`, where all digests by which the log extends it are on the list; or for
-/// each that isn't `unknown BANK I at N DIGEST TYPE`, with how many bytes precede its record, and the name of the
-/// record's type, or its number in eight hexadecimal digits. A line that is none is `line N: not a register`, a list
-/// without a digest `no register`, and one of more than 16,777,216 bytes `list too long`; each of these is told in
-/// place of all that is said of the list.
-///
-/// As JSON a register that is allowed is an object of `bank`, `register` and `allowed`, which is true; a digest that
-/// isn't on the list one of `bank`, `register`, `allowed`, which is false, `at`, `digest` and `type`. A register that
-/// is lacking is one of `selection`, which is `lacks`, and `lacks`, its `bank` and its `register`. What is wrong with
-/// the list is `fault`, with `line` where there is one. The last object is `ok`, whether the status is `Done`.
-///
-/// The status is `Done` where all that was asked for is so, and the list names a register. Then `AllowList::unknown` is
-/// none for each record of the log, so each digest by which it extends a register that the list names is on the list
-/// (`tpm_vouched::laws::allowed_by_the_log`); and that holds of every log beside which the quote is the one asked for
-/// (`tpm_vouched::laws::allowed_by_the_quote`, with its premises).
-///
-/// A log that has a fault gives `log KIND at N` alone, or the object of `fault` and `at`. Whatever is answered, at most
-/// 16,777,217 bytes are read, one more than a log may have. Where a request for memory is refused the answer is
-/// `Memory`, where a read fails `Read`, and where the writer fails `Write`. What was written before is then left open,
-/// and a failed read isn't tried again.
-pub fn check_allowed<L: Source, W: Write>(
-    alloc: Global,
-    log: &mut L,
-    options: &CheckOptions<'_>,
-    attest: &[u8],
-    allow: &[u8],
-    out: &mut W,
-) -> Result<Status, ToolFault>
-    ensures failures { CountsRead (L.failed log.old) (L.failed log.new) result }
-    ensures stop { IsErrOf result Read → IsWhereItFailed (L.stopped log.new) }
-    ensures most { ReadsNoMore most_read (L.coming log.old) (L.coming log.new) }
-    ensures ok { IfOk result (λ status. (bytes : List ℕ) × (text : List ℕ)
-        × ReadsUpTo most_read (L.coming log.old) (L.coming log.new) bytes
-        × ChecksAllowed options.now (record { attest = attest.now; allow = allow.now })
-        bytes status text
-        × Appends (W.contents out.old) (W.contents out.new) text) }
-    ensures short { IsErrOf result InputTooLong → ⊥ }
-{
-    let bytes = read_up_to(alloc, log, MOST_READ)?;
-    print_beside(alloc, options, attest, Some(allow), bytes.as_slice(), out)
 }

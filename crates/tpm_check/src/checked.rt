@@ -1,6 +1,7 @@
 //! The subcommand `check`.
 
 ghost use Rattle.std.specs.Prelude.{◌≡◌, ◌||◌, ◌++◌, ℕ, List, Option, IfOk, IsErrOf, Result, is_some, option_map};
+ghost use Rattle.std.specs.Prelude.{string_bytes};
 ghost use Rattle.std.specs.Io.KnownBytes.{Appends};
 ghost use Rattle.tpm_pcr.specs.Registers.{Registers as RegistersValue};
 ghost use Rattle.tpm_output.specs.declared.status.Status.TheVariants.{Done, Refused};
@@ -9,27 +10,30 @@ ghost use Rattle.tpm_output.specs.Faults.{FailsByMemoryOrWrite};
 ghost use Rattle.tpm_output.specs.InputLines.{CountsRead};
 ghost use Rattle.tpm_check.specs.Compare.{printed};
 ghost use Rattle.tpm_check.specs.inner.Told.{told};
-ghost use Rattle.tpm_check.specs.CheckJson.{ok_text, registers_told};
+ghost use Rattle.tpm_check.specs.Asked.{asked_by};
+ghost use Rattle.tpm_check.specs.CheckJson.{ok_text};
 ghost use Rattle.tpm_check.specs.Check.{CountsReads, FailsLast, ReadsIfList, ReadsTooMuchIfList};
 ghost use Rattle.tpm_check.specs.Check.{failures_of, has_stopped};
 ghost use Rattle.tpm_check.specs.Checked.{ChecksAll, ChecksLog, ChecksSigned, ChecksToEnd, ChecksValues};
+ghost use Rattle.tpm_check.specs.Checked.{registers_if};
 ghost use Rattle.tpm_events.specs.LogFaults.{fault_text};
 ghost use Rattle.tpm_log.specs.Changes.{AreAfter};
 ghost use Rattle.tpm_log.specs.Replays.{ReplaysFrom, ReadsFrom};
 ghost use Rattle.tpm_log.specs.declared.fault.LogFault.{LogFault as LogFaultValue};
 ghost use Rattle.tpm_wire.specs.Sources.{IsWhereItFailed};
 
+use crate::asked::Asked;
 use crate::beside::Beside;
 use crate::check_json::{ok_text, push_registers_told};
 use crate::compared::check_list;
 use crate::judged::answer_to_attest;
 use crate::quoted::answer_to_quote;
-use std::alloc::Global;
+use std::alloc::{AllocError, Global};
 use std::io::Write;
 use tpm_events::faults::print_fault;
 use tpm_log::{LogFault, LogFaultKind, replay_from};
 use tpm_options::CheckOptions;
-use tpm_output::answer::write;
+use tpm_output::answer::Answer;
 use tpm_output::fault::ToolFault;
 use tpm_output::status::Status;
 use tpm_output::written::put;
@@ -61,60 +65,46 @@ fn print_ok<W: Write>(json: bool, status: Status, out: &mut W) -> Result<Status,
     Ok(status)
 }
 
-fn print_registers<W: Write>(
+// What a quote as it was signed says of registers, where there is one.
+fn answer_to_signed(
     alloc: Global,
     found: &Beside<'_>,
-    out: &mut W,
-) -> Result<Status, ToolFault>
-    ensures ok { IfOk result (λ status. (status ≡ Done)
-        × Appends (W.contents out.old) (W.contents out.new)
-        (registers_told found.now.json (told found.now).value)) }
-    ensures err { FailsByMemoryOrWrite result }
+    asked: &Asked<'_, '_>,
+) -> Result<Answer, AllocError>
+    ensures { IfOk result (λ a. ChecksSigned (told found.now) (asked_by asked.now)
+        (printed a.status (string_bytes a.text))) }
 {
-    let mut text = String::new(alloc);
-    push_registers_told(alloc, &mut text, found)?;
-    write(out, &text)?;
-    Ok(Status::Done)
-}
-
-// Prints what a quote as it was signed says of registers, where there is one.
-fn print_signed<W: Write>(
-    alloc: Global,
-    found: &Beside<'_>,
-    options: &CheckOptions<'_>,
-    attest: Option<&[u8]>,
-    out: &mut W,
-) -> Result<Status, ToolFault>
-    ensures ok { IfOk result (λ status. (text : List ℕ)
-        × ChecksSigned (told found.now) options.now (option_map (λ a. a.now) attest.entry)
-        (printed status text)
-        × Appends (W.contents out.old) (W.contents out.new) text) }
-    ensures err { FailsByMemoryOrWrite result }
-{
-    match attest {
-        Some(bytes) => answer_to_attest(alloc, found, options, bytes)?.print(out),
-        None => Ok(Status::Done),
+    match asked.attest {
+        Some(bytes) => answer_to_attest(alloc, found, asked.options, bytes),
+        None => Ok(Answer::done(String::new(alloc))),
     }
 }
 
-// Prints what the information of a quote says of registers, where there is one, and else the registers themselves, if
-// they stand beside nothing else.
-fn print_values<W: Write>(
+// The registers themselves, if they stand beside nothing else.
+fn answer_alone(alloc: Global, found: &Beside<'_>, others: bool) -> Result<Answer, AllocError>
+    ensures { IfOk result (λ a. (a.status ≡ Done)
+        × (string_bytes a.text ≡ registers_if (told found.now) others)) }
+{
+    let mut text = String::new(alloc);
+    if !others {
+        push_registers_told(alloc, &mut text, found)?;
+    }
+    Ok(Answer::done(text))
+}
+
+// What the information of a quote says of registers, where there is one, and else those themselves.
+fn answer_last(
     alloc: Global,
     found: &Beside<'_>,
     options: &CheckOptions<'_>,
     others: bool,
-    out: &mut W,
-) -> Result<Status, ToolFault>
-    ensures ok { IfOk result (λ status. (text : List ℕ)
-        × ChecksValues (told found.now) options.now others (printed status text)
-        × Appends (W.contents out.old) (W.contents out.new) text) }
-    ensures err { FailsByMemoryOrWrite result }
+) -> Result<Answer, AllocError>
+    ensures { IfOk result (λ a. ChecksValues (told found.now) options.now others
+        (printed a.status (string_bytes a.text))) }
 {
     match options.quote {
-        Some(quote) => answer_to_quote(alloc, found, options.hash, quote)?.print(out),
-        None if others => Ok(Status::Done),
-        None => print_registers(alloc, found, out),
+        Some(quote) => answer_to_quote(alloc, found, options.hash, quote),
+        None => answer_alone(alloc, found, others),
     }
 }
 
@@ -129,8 +119,7 @@ fn is_compared<F>(attest: Option<&[u8]>, list: &Option<F>) -> bool
 fn print_compared<F: Source, W: Write>(
     alloc: Global,
     found: &Beside<'_>,
-    options: &CheckOptions<'_>,
-    attest: Option<&[u8]>,
+    asked: &Asked<'_, '_>,
     list: &mut Option<F>,
     out: &mut W,
 ) -> Result<Status, ToolFault>
@@ -140,20 +129,17 @@ fn print_compared<F: Source, W: Write>(
     ensures ok { IfOk result (λ status. (bytes : Option (List ℕ)) × (text : List ℕ)
         × ReadsIfList (told found.now)
         (option_map F.coming list.old) (option_map F.coming list.new) bytes
-        × ChecksAll (told found.now) options.now (record {
-          attest = option_map (λ a. a.now) attest.entry;
-          list = bytes;
-        }) (printed status text)
+        × ChecksAll (told found.now) (asked_by asked.now) bytes (printed status text)
         × Appends (W.contents out.old) (W.contents out.new) text) }
     ensures too_long { IsErrOf result InputTooLong
         → ReadsTooMuchIfList (option_map F.coming list.old) (option_map F.coming list.new) }
 {
-    let others = is_compared(attest, list);
-    let first = print_signed(alloc, found, options, attest, out)?;
+    let others = is_compared(asked.attest, list);
+    let first = answer_to_signed(alloc, found, asked)?.print(out)?;
     let Some(second) = check_list(alloc, found, list, out)? else {
         return Ok(Status::Refused);
     };
-    let third = print_values(alloc, found, options, others, out)?;
+    let third = answer_last(alloc, found, asked.options, others)?.print(out)?;
     Ok(first.both(second.both(third)))
 }
 
@@ -161,8 +147,7 @@ fn print_compared<F: Source, W: Write>(
 fn print_to_end<F: Source, W: Write>(
     alloc: Global,
     found: &Beside<'_>,
-    options: &CheckOptions<'_>,
-    attest: Option<&[u8]>,
+    asked: &Asked<'_, '_>,
     list: &mut Option<F>,
     out: &mut W,
 ) -> Result<Status, ToolFault>
@@ -172,15 +157,12 @@ fn print_to_end<F: Source, W: Write>(
     ensures ok { IfOk result (λ status. (bytes : Option (List ℕ)) × (text : List ℕ)
         × ReadsIfList (told found.now)
         (option_map F.coming list.old) (option_map F.coming list.new) bytes
-        × ChecksToEnd (told found.now) options.now (record {
-          attest = option_map (λ a. a.now) attest.entry;
-          list = bytes;
-        }) (printed status text)
+        × ChecksToEnd (told found.now) (asked_by asked.now) bytes (printed status text)
         × Appends (W.contents out.old) (W.contents out.new) text) }
     ensures too_long { IsErrOf result InputTooLong
         → ReadsTooMuchIfList (option_map F.coming list.old) (option_map F.coming list.new) }
 {
-    let status = print_compared(alloc, found, options, attest, list, out)?;
+    let status = print_compared(alloc, found, asked, list, out)?;
     print_ok(found.json, status, out)
 }
 
@@ -227,8 +209,7 @@ fn print_to_end<F: Source, W: Write>(
 pub fn check_log<L: Source, F: Source, W: Write>(
     alloc: Global,
     log: &mut L,
-    options: &CheckOptions<'_>,
-    attest: Option<&[u8]>,
+    asked: &Asked<'_, '_>,
     list: &mut Option<F>,
     out: &mut W,
 ) -> Result<Status, ToolFault>
@@ -254,8 +235,7 @@ pub fn check_log<L: Source, F: Source, W: Write>(
         }) found
         × ReadsFrom AreAfter (L.coming log.old) (L.coming log.new) found
         × ChecksLog (record {
-          options = options.now;
-          attest = option_map (λ a. a.now) attest.entry;
+          asked = asked_by asked.now;
           list = option_map F.coming list.old;
           list-behind = option_map F.coming list.new;
         }) found status text
@@ -266,11 +246,11 @@ pub fn check_log<L: Source, F: Source, W: Write>(
     let found = match replay_from(log) {
         Ok(found) => found,
         Err(fault) if fault.kind == LogFaultKind::Device => return Err(ToolFault::Read),
-        Err(fault) => return tell_fault(alloc, options.json, &fault, out),
+        Err(fault) => return tell_fault(alloc, asked.options.json, &fault, out),
     };
     let found = Beside {
         registers: &found,
-        json: options.json,
+        json: asked.options.json,
     };
-    print_to_end(alloc, &found, options, attest, list, out)
+    print_to_end(alloc, &found, asked, list, out)
 }

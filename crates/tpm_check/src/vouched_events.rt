@@ -1,4 +1,4 @@
-//! The subcommand `events` beside a quote as it was signed.
+//! The subcommand `events`, beside a quote as it was signed.
 
 ghost use Rattle.std.specs.Prelude.{◌≡◌, ℕ, List, Some, map, IfOk, IsErrOf, string_bytes};
 ghost use Rattle.std.specs.Io.KnownBytes.{Appends};
@@ -13,8 +13,10 @@ ghost use Rattle.tpm_events.specs.ListEvents.{events_from, most_read};
 ghost use Rattle.tpm_check.specs.CheckAttest.{ChecksAttest, Says};
 ghost use Rattle.tpm_check.specs.Compare.{Verdict, beside, printed};
 ghost use Rattle.tpm_check.specs.SecureBootLines.{ended};
-ghost use Rattle.tpm_check.specs.VouchedEvents.{IsFollowed, ListsVouched};
+ghost use Rattle.tpm_check.specs.Asked.{asked_by};
+ghost use Rattle.tpm_check.specs.VouchedEvents.{IsFollowed, ListsBeside, ListsVouched};
 
+use crate::asked::Asked;
 use crate::beside::Beside;
 use crate::check_json::ok_text;
 use crate::checked::tell_fault;
@@ -24,9 +26,9 @@ use crate::replayed::replayed;
 use std::alloc::{AllocError, Global};
 use std::io::Write;
 use tpm_events::listed_events::MOST_READ;
-use tpm_events::{Listing, print_events};
+use tpm_events::{list_events, print_events};
 use tpm_log::Log;
-use tpm_options::CheckOptions;
+use tpm_options::{CheckOptions, Listing};
 use tpm_output::answer::Answer;
 use tpm_output::fault::ToolFault;
 use tpm_output::reads::read_up_to;
@@ -112,10 +114,11 @@ fn print_vouched<W: Write>(
     print_behind(alloc, listing, &said, attest, &found.log, out)
 }
 
-/// Prints what the bytes of a quote as it was signed say beside the registers that a log gives, as `check_log` does.
-/// Behind a quote that is the one asked for it prints the records, as `list_events` does, each with what the quote
-/// vouches for (`tpm_events::print_events`). Any other ends the output, with the status `Refused`, since it vouches for
-/// nothing. The log is read once, so that what is vouched for is told of the very log whose registers were compared.
+/// Prints the records of a log, as `list_events` does; or what the bytes of a quote as it was signed say beside the
+/// registers that the log gives, as `check_log` does, and behind a quote that is the one asked for the records, each
+/// with what the quote vouches for (`tpm_events::print_events`). Any other ends the output, with the status `Refused`,
+/// since it vouches for nothing. The log is read once, so that what is vouched for is told of the very log whose
+/// registers were compared.
 ///
 /// What `vouched` means is the law of `tpm_vouched::laws::vouched_of_the_log` with `records_of_the_quote`: of two logs
 /// beside which one quote is the one that was asked for, the records of a register that it selects measured the same,
@@ -125,8 +128,9 @@ fn print_vouched<W: Write>(
 /// As JSON the quote's object comes first, then `ok`, whether it is the one asked for, and then an object for each
 /// record, which has the member `vouched`.
 ///
-/// A log that has a fault gives that alone, as `check_log` prints it, and the status `Refused`. Whatever is answered,
-/// at most 16,777,217 bytes are read, one more than a log may have. Whether objects are printed is by the listing.
+/// Beside a quote a log that has a fault gives that alone, as `check_log` prints it, and the status `Refused`. Whatever
+/// is answered, at most 16,777,217 bytes are read, one more than a log may have. Whether objects are printed is by the
+/// listing.
 ///
 /// Where a request for memory is refused the answer is `Memory`, where a read fails `Read`, and where the writer fails
 /// `Write`. What was written before is then left open, and a failed read isn't tried again. The whole log is held.
@@ -134,8 +138,7 @@ pub fn list_vouched<L: Source, W: Write>(
     alloc: Global,
     log: &mut L,
     listing: Listing<'_>,
-    options: &CheckOptions<'_>,
-    attest: &[u8],
+    asked: &Asked<'_, '_>,
     out: &mut W,
 ) -> Result<Status, ToolFault>
     ensures failures { CountsRead (L.failed log.old) (L.failed log.new) result }
@@ -143,14 +146,13 @@ pub fn list_vouched<L: Source, W: Write>(
     ensures most { ReadsNoMore most_read (L.coming log.old) (L.coming log.new) }
     ensures ok { IfOk result (λ status. (bytes : List ℕ) × (text : List ℕ)
         × ReadsUpTo most_read (L.coming log.old) (L.coming log.new) bytes
-        × ListsVouched (record {
-          listing = listing.entry;
-          attest = attest.now;
-          options = options.now;
-        }) bytes status text
+        × ListsBeside listing.entry (asked_by asked.now) bytes status text
         × Appends (W.contents out.old) (W.contents out.new) text) }
     ensures short { IsErrOf result InputTooLong → ⊥ }
 {
+    let Some(attest) = asked.attest else {
+        return list_events(alloc, log, listing, out);
+    };
     let bytes = read_up_to(alloc, log, MOST_READ)?;
-    print_vouched(alloc, listing, options, attest, bytes.as_slice(), out)
+    print_vouched(alloc, listing, asked.options, attest, bytes.as_slice(), out)
 }

@@ -1,9 +1,82 @@
-//! What the words of `check` ask for, as tpm_args reads them and tpm_check takes them.
+//! What words ask for, as tpm_args reads them and the subcommands take them. The path `-` is standard input.
 #![tactic(auto)]
 
+use tpm_names::selection::RegisterList;
 use tpm_types::{Alg, Selections};
 
-/// The paths of the files of a check. The path `-` is standard input.
+/// A capture whose frames are printed.
+#[derive(Drop)]
+pub struct CaptureTask<'a> {
+    /// Its path, or none where it is on standard input.
+    pub file: Option<&'a str>,
+    /// Whether it is a stream of frames in place of lines.
+    pub binary: bool,
+    /// Whether each parameter is printed by its name and its type, too.
+    pub fields: bool,
+    /// Whether each frame is printed as an object of JSON.
+    pub json: bool,
+}
+
+/// Packets of which each frame is printed that went over a simulator's port.
+#[derive(Drop)]
+pub struct PacketsTask<'a> {
+    /// The path of a file of libpcap.
+    pub file: &'a str,
+    /// The port.
+    pub port: u16,
+    /// Whether each parameter is printed by its name and its type, too.
+    pub fields: bool,
+    /// Whether each frame is printed as an object of JSON.
+    pub json: bool,
+}
+
+/// A log, by itself.
+#[derive(Drop)]
+pub struct LogTask<'a> {
+    /// Its path.
+    pub log: &'a str,
+    /// Whether what is said of it is printed as an object of JSON.
+    pub json: bool,
+}
+
+/// A log that is checked.
+#[derive(Drop)]
+pub struct CheckTask<'a> {
+    /// The files.
+    pub files: CheckFiles<'a>,
+    /// What is asked of them.
+    pub options: CheckOptions<'a>,
+}
+
+/// A log whose records are printed.
+#[derive(Drop)]
+pub struct EventsTask<'a> {
+    /// Its path.
+    pub log: &'a str,
+    /// The path of a quote as it was signed, behind which they come, each with what that vouches for.
+    pub attest: Option<&'a str>,
+    /// What is listed.
+    pub listing: Listing<'a>,
+    /// What is expected of the quote.
+    pub options: CheckOptions<'a>,
+}
+
+/// What is listed of a log.
+#[derive(Debug, Clone, Copy, PartialEq, Eq)]
+pub struct Listing<'a> {
+    /// The registers whose records alone are listed, or none for those of all.
+    pub registers: Option<RegisterList<'a>>,
+    /// Whether each record has its place.
+    pub places: bool,
+    /// Whether each record has its digests.
+    pub digests: bool,
+    /// Whether each record has its data.
+    pub event_data: bool,
+    /// Whether each record is an object of JSON in place of a line of fields, with all that it holds.
+    pub json: bool,
+}
+
+/// The paths of the files of a check.
 #[derive(Drop)]
 pub struct CheckFiles<'a> {
     /// The log.

@@ -24,14 +24,14 @@ path_if (Some path) = path.now ∷ []
 
 -- the paths of the files that a task opens, in this order
 abbrev pub files_of : Task → List (List ℕ)
-files_of (ShowCapture file binary fields json) = path_if file
-files_of (ShowPackets file port fields json) = file.now ∷ []
+files_of (ShowCapture c) = path_if c.file
+files_of (ShowPackets p) = p.file.now ∷ []
 files_of (ShowNv file) = file.now ∷ []
-files_of (Check files options) =
-    files.log.now ∷ (path_if files.registers ++ (path_if files.attest ++ path_if files.allow))
-files_of (CheckListed log json) = log.now ∷ []
-files_of (EventsHeader log json) = log.now ∷ []
-files_of (Events log registers places digests event-data json attest options) = log.now ∷ path_if attest
+files_of (Check c) =
+    c.files.log.now ∷ (path_if c.files.registers ++ (path_if c.files.attest ++ path_if c.files.allow))
+files_of (CheckListed l) = l.log.now ∷ []
+files_of (EventsHeader l) = l.log.now ∷ []
+files_of (Events e) = e.log.now ∷ path_if e.attest
 files_of _ = []
 
 -- why no more could be read: a folder has no bytes
@@ -63,7 +63,7 @@ IsUnreadOf offered (file ∷ files) path cause =
 
 -- The task reads standard input.
 abbrev pub ReadsInput : Task → Type 0
-ReadsInput (ShowCapture None binary fields json) = Unit {0}
+ReadsInput (ShowCapture c) = c.file ≡ None
 ReadsInput (Run owner greatest) = Unit {0}
 ReadsInput _ = ⊥
 
@@ -71,13 +71,13 @@ ReadsInput _ = ⊥
 
 -- The capture, the script or the list of registers has more bytes than are taken.
 abbrev pub IsTooLong : Offered → Task → Type 0
-IsTooLong offered (ShowCapture file binary fields json) =
-    OfPlace offered file (λ capture. (rest : Option (List ℕ)) × ReadsTooMuchCapture capture rest)
+IsTooLong offered (ShowCapture c) =
+    OfPlace offered c.file (λ capture. (rest : Option (List ℕ)) × ReadsTooMuchCapture capture rest)
 IsTooLong offered (Run owner greatest) =
     OfPlace offered None (λ input. (rest : Option (List ℕ)) × ReadsTooMuch input rest)
-IsTooLong offered (Check files options) =
-    IsOpened offered files.log.now
-    × OfFileIf offered files.registers (λ list. (rest : Option (Option (List ℕ))) × ReadsTooMuchIfList list rest)
+IsTooLong offered (Check c) =
+    IsOpened offered c.files.log.now
+    × OfFileIf offered c.files.registers (λ list. (rest : Option (Option (List ℕ))) × ReadsTooMuchIfList list rest)
 IsTooLong offered _ = ⊥
 
 -- ---- each task

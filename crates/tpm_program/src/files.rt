@@ -2,13 +2,16 @@
 
 ghost use Rattle.std.specs.Prelude.{◌≡◌, ◌<◌, Ok, IfOk, IfErr, option_map};
 ghost use Rattle.tpm_output.specs.declared.fault.ToolFault.TheVariants.{Read};
-ghost use Rattle.tpm_program.specs.Offered.{OfFileIf};
-ghost use Rattle.tpm_program.specs.inner.Fails.{IsNotOpened, IsNotOpenedIf, IsOfReading};
+ghost use Rattle.tpm_program.specs.Offered.{OfFile, OfFileIf};
+ghost use Rattle.tpm_program.specs.Performs.{OfFirst, OfFirstIf};
+ghost use Rattle.tpm_program.specs.inner.Fails.{FailsAt, FailsAtIf, IsNotOpened, IsNotOpenedIf, IsOfReading};
 
 use crate::cause::Cause;
 use crate::fault::Fault;
 use crate::inputs::Inputs;
+use std::alloc::Global;
 use tpm_output::fault::ToolFault;
+use tpm_output::reads::read_up_to;
 
 /// The file at a path, opened for reading.
 pub(crate) fn opened<'a, I: Inputs>(inputs: &I, path: &'a str) -> Result<I::Source, Fault<'a>>
@@ -56,5 +59,40 @@ pub(crate) fn of_reading<'a, I: Inputs>(inputs: &I, fault: ToolFault, path: &'a 
             Fault::File { path, cause }
         }
         other => Fault::Tool(other),
+    }
+}
+
+/// The bytes of the file at a path, or the first of them, so many.
+pub(crate) fn bytes_at<'a, I: Inputs>(
+    alloc: Global,
+    inputs: &I,
+    path: &'a str,
+    most: usize,
+) -> Result<Vec<u8>, Fault<'a>>
+    ensures ok { IfOk result (λ bytes. OfFile (I.offers inputs.now) path.now
+        (OfFirst most (λ read. read ≡ bytes.items))) }
+    ensures err { IfErr result (λ fault. FailsAt (I.offers inputs.now) path.now fault) }
+{
+    let mut source = opened(inputs, path)?;
+    match read_up_to(alloc, &mut source, most) {
+        Ok(bytes) => Ok(bytes),
+        Err(fault) => Err(of_reading(inputs, fault, path)),
+    }
+}
+
+/// The same, where there is a path.
+pub(crate) fn bytes_if<'a, I: Inputs>(
+    alloc: Global,
+    inputs: &I,
+    path: Option<&'a str>,
+    most: usize,
+) -> Result<Option<Vec<u8>>, Fault<'a>>
+    ensures ok { IfOk result (λ bytes. OfFirstIf (I.offers inputs.now) most path.entry
+        (λ read. read ≡ option_map (λ v. v.items) bytes)) }
+    ensures err { IfErr result (λ fault. FailsAtIf (I.offers inputs.now) path.entry fault) }
+{
+    match path {
+        Some(path) => Ok(Some(bytes_at(alloc, inputs, path, most)?)),
+        None => Ok(None),
     }
 }

@@ -3,82 +3,48 @@
 ghost use Rattle.std.specs.Prelude.{◌≡◌, ℕ, List, IfErr, IfOk, IsErrOf, option_map};
 ghost use Rattle.std.specs.Io.KnownBytes.{Appends};
 ghost use Rattle.tpm_output.specs.declared.fault.ToolFault.TheVariants.{InputTooLong};
-ghost use Rattle.tpm_output.specs.InputLines.{CountsRead};
-ghost use Rattle.tpm_output.specs.Reads.{most_attest};
+ghost use Rattle.tpm_check.specs.Asked.{asked_by};
 ghost use Rattle.tpm_check.specs.Check.{CountsReads, ReadsTooMuchIfList, failures_of};
-ghost use Rattle.tpm_events.specs.ListEvents.{most_read};
 ghost use Rattle.tpm_args.specs.declared.task.Task.TheVariants.{Check, CheckListed, Events, EventsHeader};
-ghost use Rattle.tpm_program.specs.Offered.{OfFile};
-ghost use Rattle.tpm_program.specs.Performs.{OfAllow, OfAttest, OfFirst, Performs, PrintsAsked, PrintsChecked};
-ghost use Rattle.tpm_program.specs.Performs.{PrintsEvents};
+ghost use Rattle.tpm_program.specs.Performs.{Performs, PrintsAsked, is_of_boot};
 ghost use Rattle.tpm_program.specs.Fails.{Fails};
-ghost use Rattle.tpm_program.specs.inner.Fails.{FailsAt, FailsAtIf, read_last};
+ghost use Rattle.tpm_program.specs.inner.Fails.{read_last};
 
 use crate::fault::Fault;
-use crate::files::{of_reading, opened, opened_if};
+use crate::files::{bytes_at, bytes_if, of_reading, opened, opened_if};
 use crate::inputs::Inputs;
 use std::alloc::Global;
 use std::io::Write;
-use tpm_check::{
-    check_allowed, check_extends, check_listed, check_log, check_secure_boot, list_vouched,
-};
+use tpm_check::{Asked, check_boot, check_extends, check_listed, check_log, list_vouched};
 use tpm_events::listed_events::MOST_READ;
-use tpm_events::{Listing, list_events, print_header};
-use tpm_options::{CheckFiles, CheckOptions};
+use tpm_events::print_header;
+use tpm_options::{CheckOptions, CheckTask, EventsTask, LogTask};
 use tpm_output::fault::ToolFault;
-use tpm_output::reads::{read_attest, read_up_to};
 use tpm_output::status::Status;
 use tpm_wire::Source;
 
-// Lists the records of a log that is opened, beside a quote where there is one.
-fn list_opened<S: Source, W: Write>(
-    alloc: Global,
-    log: &mut S,
-    listing: Listing<'_>,
-    attest: Option<&[u8]>,
-    options: &CheckOptions<'_>,
-    out: &mut W,
-) -> Result<Status, ToolFault>
-    ensures failures { CountsRead (S.failed log.old) (S.failed log.new) result }
-    ensures ok { IfOk result (λ status. (text : List ℕ)
-        × OfFirst most_read (λ bytes. PrintsEvents (record {
-          listing = listing.entry;
-          attest = option_map (λ a. a.now) attest.entry;
-          options = options.now;
-        }) bytes status text) (S.coming log.old)
-        × Appends (W.contents out.old) (W.contents out.new) text) }
-    ensures short { IsErrOf result InputTooLong → ⊥ }
-{
-    match attest {
-        Some(attest) => list_vouched(alloc, log, listing, options, attest, out),
-        None => list_events(alloc, log, listing, out),
-    }
-}
+/// How many bytes of a quote are read at most, which is more than any has.
+const MOST_ATTEST: usize = 4096;
 
 /// Lists the records of a log, beside a quote where there is one.
 pub(crate) fn events<'a, I: Inputs, W: Write>(
     alloc: Global,
     inputs: &I,
     out: &mut W,
-    path: &'a str,
-    listing: Listing<'_>,
-    attest: Option<&'a str>,
-    options: &CheckOptions<'_>,
+    task: &EventsTask<'a>,
 ) -> Result<Status, Fault<'a>>
     ensures ok { IfOk result (λ status. (text : List ℕ)
-        × Performs (I.offers inputs.now)
-        (Events path.entry listing.entry.registers listing.entry.places listing.entry.digests
-        listing.entry.event_data listing.entry.json attest.entry options.now) status text
+        × Performs (I.offers inputs.now) (Events task.now) status text
         × Appends (W.contents out.old) (W.contents out.new) text) }
-    ensures err { IfErr result (λ fault. Fails (I.offers inputs.now)
-        (Events path.entry listing.entry.registers listing.entry.places listing.entry.digests
-        listing.entry.event_data listing.entry.json attest.entry options.now) fault) }
+    ensures err { IfErr result (λ fault. Fails (I.offers inputs.now) (Events task.now) fault) }
 {
-    let mut log = opened(inputs, path)?;
-    let attest = attest_if(alloc, inputs, attest)?;
-    match list_opened(alloc, &mut log, listing, slice_if(&attest), options, out) {
+    let mut log = opened(inputs, task.log)?;
+    let attest = bytes_if(alloc, inputs, task.attest, MOST_ATTEST)?;
+    let allow = None;
+    let asked = asked_with(&task.options, &attest, &allow);
+    match list_vouched(alloc, &mut log, task.listing, &asked, out) {
         Ok(status) => Ok(status),
-        Err(fault) => Err(of_reading(inputs, fault, path)),
+        Err(fault) => Err(of_reading(inputs, fault, task.log)),
     }
 }
 
@@ -87,20 +53,15 @@ pub(crate) fn events_header<'a, I: Inputs, W: Write>(
     alloc: Global,
     inputs: &I,
     out: &mut W,
-    path: &'a str,
-    json: bool,
+    task: &LogTask<'a>,
 ) -> Result<Status, Fault<'a>>
     ensures ok { IfOk result (λ status. (text : List ℕ)
-        × Performs (I.offers inputs.now) (EventsHeader path.entry json) status text
+        × Performs (I.offers inputs.now) (EventsHeader task.now) status text
         × Appends (W.contents out.old) (W.contents out.new) text) }
-    ensures err { IfErr result (λ fault.
-        Fails (I.offers inputs.now) (EventsHeader path.entry json) fault) }
+    ensures err { IfErr result (λ fault. Fails (I.offers inputs.now) (EventsHeader task.now) fault) }
 {
-    let mut log = opened(inputs, path)?;
-    match read_up_to(alloc, &mut log, MOST_READ) {
-        Ok(bytes) => Ok(print_header(alloc, json, bytes.as_slice(), out)?),
-        Err(fault) => Err(of_reading(inputs, fault, path)),
-    }
+    let bytes = bytes_at(alloc, inputs, task.log, MOST_READ)?;
+    Ok(print_header(alloc, task.json, bytes.as_slice(), out)?)
 }
 
 /// Prints the registers that a log gives in the banks that its header lists.
@@ -108,20 +69,15 @@ pub(crate) fn check_banks<'a, I: Inputs, W: Write>(
     alloc: Global,
     inputs: &I,
     out: &mut W,
-    path: &'a str,
-    json: bool,
+    task: &LogTask<'a>,
 ) -> Result<Status, Fault<'a>>
     ensures ok { IfOk result (λ status. (text : List ℕ)
-        × Performs (I.offers inputs.now) (CheckListed path.entry json) status text
+        × Performs (I.offers inputs.now) (CheckListed task.now) status text
         × Appends (W.contents out.old) (W.contents out.new) text) }
-    ensures err { IfErr result (λ fault.
-        Fails (I.offers inputs.now) (CheckListed path.entry json) fault) }
+    ensures err { IfErr result (λ fault. Fails (I.offers inputs.now) (CheckListed task.now) fault) }
 {
-    let mut log = opened(inputs, path)?;
-    match read_up_to(alloc, &mut log, MOST_READ) {
-        Ok(bytes) => Ok(check_listed(alloc, json, bytes.as_slice(), out)?),
-        Err(fault) => Err(of_reading(inputs, fault, path)),
-    }
+    let bytes = bytes_at(alloc, inputs, task.log, MOST_READ)?;
+    Ok(check_listed(alloc, task.json, bytes.as_slice(), out)?)
 }
 
 // Which of a log and a list was read last: the list is read behind the log, where no read of that failed.
@@ -131,64 +87,6 @@ fn read_last<'a>(failures: u64, log: &'a str, list: Option<&'a str>) -> &'a str
     match list {
         Some(list) if failures == 0 => list,
         _ => log,
-    }
-}
-
-// The bytes of a quote as it was signed.
-fn attest_at<'a, I: Inputs>(alloc: Global, inputs: &I, path: &'a str) -> Result<Vec<u8>, Fault<'a>>
-    ensures ok { IfOk result (λ bytes. OfFile (I.offers inputs.now) path.now
-        (OfFirst most_attest (λ read. read ≡ bytes.items))) }
-    ensures err { IfErr result (λ fault. FailsAt (I.offers inputs.now) path.now fault) }
-{
-    let mut source = opened(inputs, path)?;
-    match read_attest(alloc, &mut source) {
-        Ok(bytes) => Ok(bytes),
-        Err(fault) => Err(of_reading(inputs, fault, path)),
-    }
-}
-
-// The same, where there is a path.
-fn attest_if<'a, I: Inputs>(
-    alloc: Global,
-    inputs: &I,
-    path: Option<&'a str>,
-) -> Result<Option<Vec<u8>>, Fault<'a>>
-    ensures ok { IfOk result (λ bytes. OfAttest (I.offers inputs.now) path.entry
-        (λ read. read ≡ option_map (λ v. v.items) bytes)) }
-    ensures err { IfErr result (λ fault. FailsAtIf (I.offers inputs.now) path.entry fault) }
-{
-    match path {
-        Some(path) => Ok(Some(attest_at(alloc, inputs, path)?)),
-        None => Ok(None),
-    }
-}
-
-// The bytes of a list of allowed digests.
-fn allow_at<'a, I: Inputs>(alloc: Global, inputs: &I, path: &'a str) -> Result<Vec<u8>, Fault<'a>>
-    ensures ok { IfOk result (λ bytes. OfFile (I.offers inputs.now) path.now
-        (OfFirst most_read (λ read. read ≡ bytes.items))) }
-    ensures err { IfErr result (λ fault. FailsAt (I.offers inputs.now) path.now fault) }
-{
-    let mut source = opened(inputs, path)?;
-    match read_up_to(alloc, &mut source, MOST_READ) {
-        Ok(bytes) => Ok(bytes),
-        Err(fault) => Err(of_reading(inputs, fault, path)),
-    }
-}
-
-// The same, where there is a path.
-fn allow_if<'a, I: Inputs>(
-    alloc: Global,
-    inputs: &I,
-    path: Option<&'a str>,
-) -> Result<Option<Vec<u8>>, Fault<'a>>
-    ensures ok { IfOk result (λ bytes. OfAllow (I.offers inputs.now) path.entry
-        (λ read. read ≡ option_map (λ v. v.items) bytes)) }
-    ensures err { IfErr result (λ fault. FailsAtIf (I.offers inputs.now) path.entry fault) }
-{
-    match path {
-        Some(path) => Ok(Some(allow_at(alloc, inputs, path)?)),
-        None => Ok(None),
     }
 }
 
@@ -202,48 +100,39 @@ fn slice_if(bytes: &Option<Vec<u8>>) -> Option<&[u8]>
     }
 }
 
-// Checks a log that is opened: prints what it says of Secure Boot where that is asked for, and else of registers.
-fn check_opened<S: Source, W: Write>(
-    alloc: Global,
-    log: &mut S,
-    options: &CheckOptions<'_>,
-    attest: Option<&[u8]>,
-    list: &mut Option<S>,
-    out: &mut W,
-) -> Result<Status, ToolFault>
-    requires { S.failed log.old ≡ 0 }
-    ensures failures { CountsReads (record {
-      log = S.failed log.old;
-      log-behind = S.failed log.new;
-      list = failures_of S.failed list.old;
-      list-behind = failures_of S.failed list.new;
-    }) result }
-    ensures ok { IfOk result (λ status. (text : List ℕ)
-        × PrintsChecked (record {
-          log = S.coming log.old;
-          list = option_map S.coming list.old;
-          attest = option_map (λ a. a.now) attest.entry;
-          options = options.now;
-        }) status text
-        × Appends (W.contents out.old) (W.contents out.new) text) }
-    ensures too_long { IsErrOf result InputTooLong
-        → ReadsTooMuchIfList (option_map S.coming list.old) (option_map S.coming list.new) }
+// What a log is held against, by what was read of the files beside it.
+fn asked_with<'a, 'o>(
+    options: &'a CheckOptions<'o>,
+    attest: &'a Option<Vec<u8>>,
+    allow: &'a Option<Vec<u8>>,
+) -> Asked<'a, 'o>
+    ensures { asked_by result ≡ record {
+      options = options.now;
+      attest = option_map (λ v. v.items) attest.now;
+      allow = option_map (λ v. v.items) allow.now;
+    } }
 {
-    if options.secure_boot {
-        check_secure_boot(alloc, log, options, attest, out)
-    } else {
-        check_log(alloc, log, options, attest, list, out)
+    let attest = slice_if(attest);
+    let allow = slice_if(allow);
+    Asked {
+        options,
+        attest,
+        allow,
     }
 }
 
-// The same; but by which digests it extends registers, where that is asked for, and what it says beside a quote and a
-// list of allowed digests, where both are given.
-fn check_asked<S: Source, W: Write>(
+// Whether a list of allowed digests is compared, or Secure Boot told, in place of registers.
+fn is_of_boot(asked: &Asked<'_, '_>) -> bool
+    ensures { result ≡ is_of_boot (asked_by asked.now) }
+{
+    asked.options.secure_boot || (asked.allow.is_some() && asked.attest.is_some())
+}
+
+// Checks a log that is opened for what is asked of it.
+fn check_opened<S: Source, W: Write>(
     alloc: Global,
     log: &mut S,
-    options: &CheckOptions<'_>,
-    attest: Option<&[u8]>,
-    allow: Option<&[u8]>,
+    asked: &Asked<'_, '_>,
     list: &mut Option<S>,
     out: &mut W,
 ) -> Result<Status, ToolFault>
@@ -258,19 +147,18 @@ fn check_asked<S: Source, W: Write>(
         × PrintsAsked (record {
           log = S.coming log.old;
           list = option_map S.coming list.old;
-          attest = option_map (λ a. a.now) attest.entry;
-          options = options.now;
-        }) (option_map (λ a. a.now) allow.entry) status text
+          asked = asked_by asked.now;
+        }) status text
         × Appends (W.contents out.old) (W.contents out.new) text) }
     ensures too_long { IsErrOf result InputTooLong
         → ReadsTooMuchIfList (option_map S.coming list.old) (option_map S.coming list.new) }
 {
-    if options.extends {
-        return check_extends(alloc, log, out);
-    }
-    match (allow, attest) {
-        (Some(allow), Some(attest)) => check_allowed(alloc, log, options, attest, allow, out),
-        _ => check_opened(alloc, log, options, attest, list, out),
+    if asked.options.extends {
+        check_extends(alloc, log, out)
+    } else if is_of_boot(asked) {
+        check_boot(alloc, log, asked, out)
+    } else {
+        check_log(alloc, log, asked, list, out)
     }
 }
 
@@ -279,22 +167,20 @@ pub(crate) fn check<'a, I: Inputs, W: Write>(
     alloc: Global,
     inputs: &I,
     out: &mut W,
-    files: &CheckFiles<'a>,
-    options: &CheckOptions<'_>,
+    task: &CheckTask<'a>,
 ) -> Result<Status, Fault<'a>>
     ensures ok { IfOk result (λ status. (text : List ℕ)
-        × Performs (I.offers inputs.now) (Check files.now options.now) status text
+        × Performs (I.offers inputs.now) (Check task.now) status text
         × Appends (W.contents out.old) (W.contents out.new) text) }
-    ensures err { IfErr result (λ fault.
-        Fails (I.offers inputs.now) (Check files.now options.now) fault) }
+    ensures err { IfErr result (λ fault. Fails (I.offers inputs.now) (Check task.now) fault) }
 {
+    let files = &task.files;
     let mut log = opened(inputs, files.log)?;
     let mut list = opened_if(inputs, files.registers)?;
-    let attest = attest_if(alloc, inputs, files.attest)?;
-    let allow = allow_if(alloc, inputs, files.allow)?;
-    let quote = slice_if(&attest);
-    let allow = slice_if(&allow);
-    match check_asked(alloc, &mut log, options, quote, allow, &mut list, out) {
+    let attest = bytes_if(alloc, inputs, files.attest, MOST_ATTEST)?;
+    let allow = bytes_if(alloc, inputs, files.allow, MOST_READ)?;
+    let asked = asked_with(&task.options, &attest, &allow);
+    match check_opened(alloc, &mut log, &asked, &mut list, out) {
         Ok(status) => Ok(status),
         Err(fault) => {
             let path = read_last(log.failures(), files.log, files.registers);

@@ -15,11 +15,10 @@ use std::alloc::Global;
 use std::io::Write;
 use tpm_args::Task;
 use tpm_check::explain_kind;
-use tpm_events::Listing;
 use tpm_names::codes::code_of_name;
 use tpm_output::fault::ToolFault;
 use tpm_output::status::Status;
-use tpm_show::{Built, Telling, build, explain, show, show_fields};
+use tpm_show::{Built, build, explain, show, show_fields};
 
 /// How a task ended that has an answer.
 #[derive(Drop)]
@@ -56,8 +55,8 @@ fn explain_name<W: Write>(alloc: Global, out: &mut W, name: &str) -> Result<Stat
 /// Performs a task: prints what it asks for, and answers whether all was done, with what is told beside it.
 ///
 /// What is printed is what the subcommand prints: `show` and `show_fields`, `show_lines` and `show_stream`,
-/// `show_packets`, `show_nv`, `build`, `run_script`, `explain` and `explain_kind`, `check_log`, `check_secure_boot`,
-/// `check_allowed`, `check_extends` and `check_listed`, and `list_events`, `list_vouched` and `print_header`. The files
+/// `show_packets`, `show_nv`, `build`, `run_script`, `explain` and `explain_kind`, `check_log`, `check_boot`,
+/// `check_extends` and `check_listed`, and `list_vouched` and `print_header`. The files
 /// of a check are opened in this order: the log, the list of registers, the quote as it was signed, of which at most
 /// 4,096 bytes are read before the log, and the list of allowed digests, of which at most 16,777,217 are; and so are
 /// those of events. Of packets at most 2^30 bytes are read.
@@ -87,24 +86,8 @@ pub fn perform<'a, I: Inputs, W: Write>(
             fields: false,
             hex,
         } => Ok(silent(alloc, show(alloc, out, reply, hex)?)),
-        Task::ShowCapture {
-            file,
-            binary,
-            fields,
-            json,
-        } => {
-            let how = Telling { fields, json };
-            Ok(silent(alloc, show_capture(alloc, inputs, out, file, binary, how)?))
-        }
-        Task::ShowPackets {
-            file,
-            port,
-            fields,
-            json,
-        } => {
-            let how = Telling { fields, json };
-            Ok(silent(alloc, show_traffic(alloc, inputs, out, file, port, how)?))
-        }
+        Task::ShowCapture(task) => Ok(silent(alloc, show_capture(alloc, inputs, out, &task)?)),
+        Task::ShowPackets(task) => Ok(silent(alloc, show_traffic(alloc, inputs, out, &task)?)),
         Task::ShowNv { file } => Ok(silent(alloc, show_memory(alloc, inputs, out, file)?)),
         Task::Build {
             name,
@@ -120,36 +103,9 @@ pub fn perform<'a, I: Inputs, W: Write>(
         }
         Task::Explain { code } => Ok(silent(alloc, explain(alloc, out, code)?)),
         Task::ExplainName { name } => Ok(silent(alloc, explain_name(alloc, out, name)?)),
-        Task::Check { files, options } => {
-            Ok(silent(alloc, check(alloc, inputs, out, &files, &options)?))
-        }
-        Task::CheckListed { log, json } => {
-            Ok(silent(alloc, check_banks(alloc, inputs, out, log, json)?))
-        }
-        Task::EventsHeader { log, json } => {
-            Ok(silent(alloc, events_header(alloc, inputs, out, log, json)?))
-        }
-        Task::Events {
-            log,
-            registers,
-            places,
-            digests,
-            event_data,
-            json,
-            attest,
-            options,
-        } => {
-            let listing = Listing {
-                registers,
-                places,
-                digests,
-                event_data,
-                json,
-            };
-            Ok(silent(
-                alloc,
-                events(alloc, inputs, out, log, listing, attest, &options)?,
-            ))
-        }
+        Task::Check(task) => Ok(silent(alloc, check(alloc, inputs, out, &task)?)),
+        Task::CheckListed(task) => Ok(silent(alloc, check_banks(alloc, inputs, out, &task)?)),
+        Task::EventsHeader(task) => Ok(silent(alloc, events_header(alloc, inputs, out, &task)?)),
+        Task::Events(task) => Ok(silent(alloc, events(alloc, inputs, out, &task)?)),
     }
 }

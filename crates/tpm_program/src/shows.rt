@@ -1,6 +1,6 @@
 //! The subcommand `show` of a capture, of packets and of kept NV memory, and `run`.
 
-ghost use Rattle.std.specs.Prelude.{ℕ, List, Option, None, Some, IfOk, IfErr, IsErrOf};
+ghost use Rattle.std.specs.Prelude.{ℕ, List, Option, IfOk, IfErr, IsErrOf};
 ghost use Rattle.std.specs.Io.KnownBytes.{Appends};
 ghost use Rattle.tpm_output.specs.declared.fault.ToolFault.TheVariants.{InputTooLong};
 ghost use Rattle.tpm_output.specs.InputLines.{CountsRead};
@@ -10,13 +10,13 @@ ghost use Rattle.tpm_program.specs.Performs.{Performs, TellsFrames, form_of};
 ghost use Rattle.tpm_program.specs.Fails.{Fails};
 
 use crate::fault::Fault;
-use crate::files::{of_reading, opened};
+use crate::files::{bytes_at, of_reading, opened};
 use crate::inputs::Inputs;
 use std::alloc::Global;
 use std::io::Write;
 use tpm_device::Device;
+use tpm_options::{CaptureTask, PacketsTask};
 use tpm_output::fault::ToolFault;
-use tpm_output::reads::read_up_to;
 use tpm_output::status::Status;
 use tpm_script::{MOST_READ, run_script, show_nv};
 use tpm_show::{Telling, show_lines, show_packets, show_stream};
@@ -28,63 +28,25 @@ fn show_frames<S: Source, W: Write>(
     alloc: Global,
     input: &mut S,
     out: &mut W,
-    binary: bool,
-    how: Telling,
+    task: &CaptureTask<'_>,
 ) -> Result<Status, ToolFault>
     ensures failures { CountsRead (S.failed input.old) (S.failed input.new) result }
     ensures ok { IfOk result (λ status. (text : List ℕ)
-        × TellsFrames (form_of binary how) (S.coming input.old) status text
+        × TellsFrames (form_of task.now.binary
+        (record { fields = task.now.fields; json = task.now.json })) (S.coming input.old) status text
         × Appends (W.contents out.old) (W.contents out.new) text) }
     ensures too_long { IsErrOf result InputTooLong → (rest : Option (List ℕ))
         × ReadsTooMuchCapture (S.coming input.old) rest }
 {
-    if binary {
+    let how = Telling {
+        fields: task.fields,
+        json: task.json,
+    };
+    if task.binary {
         show_stream(alloc, input, out, how)
     } else {
         show_lines(alloc, input, out, how)
     }
-}
-
-// Tells the frames of a capture in a file.
-fn show_file<'a, I: Inputs, W: Write>(
-    alloc: Global,
-    inputs: &I,
-    out: &mut W,
-    path: &'a str,
-    binary: bool,
-    how: Telling,
-) -> Result<Status, Fault<'a>>
-    ensures ok { IfOk result (λ status. (text : List ℕ)
-        × Performs (I.offers inputs.now) (ShowCapture (Some path.entry) binary how.fields how.json)
-        status text
-        × Appends (W.contents out.old) (W.contents out.new) text) }
-    ensures err { IfErr result (λ fault.
-        Fails (I.offers inputs.now) (ShowCapture (Some path.entry) binary how.fields how.json)
-        fault) }
-{
-    let mut input = opened(inputs, path)?;
-    match show_frames(alloc, &mut input, out, binary, how) {
-        Ok(status) => Ok(status),
-        Err(fault) => Err(of_reading(inputs, fault, path)),
-    }
-}
-
-// Tells the frames of a capture on standard input.
-fn show_input<'a, I: Inputs, W: Write>(
-    alloc: Global,
-    inputs: &I,
-    out: &mut W,
-    binary: bool,
-    how: Telling,
-) -> Result<Status, Fault<'a>>
-    ensures ok { IfOk result (λ status. (text : List ℕ)
-        × Performs (I.offers inputs.now) (ShowCapture None binary how.fields how.json) status text
-        × Appends (W.contents out.old) (W.contents out.new) text) }
-    ensures err { IfErr result (λ fault.
-        Fails (I.offers inputs.now) (ShowCapture None binary how.fields how.json) fault) }
-{
-    let mut input = inputs.standard();
-    Ok(show_frames(alloc, &mut input, out, binary, how)?)
 }
 
 /// Tells the frames of a capture, in a file or, where there is no path, on standard input.
@@ -92,43 +54,44 @@ pub(crate) fn show_capture<'a, I: Inputs, W: Write>(
     alloc: Global,
     inputs: &I,
     out: &mut W,
-    file: Option<&'a str>,
-    binary: bool,
-    how: Telling,
+    task: &CaptureTask<'a>,
 ) -> Result<Status, Fault<'a>>
     ensures ok { IfOk result (λ status. (text : List ℕ)
-        × Performs (I.offers inputs.now) (ShowCapture file.entry binary how.fields how.json)
-        status text
+        × Performs (I.offers inputs.now) (ShowCapture task.now) status text
         × Appends (W.contents out.old) (W.contents out.new) text) }
-    ensures err { IfErr result (λ fault.
-        Fails (I.offers inputs.now) (ShowCapture file.entry binary how.fields how.json) fault) }
+    ensures err { IfErr result (λ fault. Fails (I.offers inputs.now) (ShowCapture task.now) fault) }
 {
-    match file {
-        Some(path) => show_file(alloc, inputs, out, path, binary, how),
-        None => show_input(alloc, inputs, out, binary, how),
+    let Some(path) = task.file else {
+        let mut input = inputs.standard();
+        return Ok(show_frames(alloc, &mut input, out, task)?);
+    };
+    let mut input = opened(inputs, path)?;
+    match show_frames(alloc, &mut input, out, task) {
+        Ok(status) => Ok(status),
+        Err(fault) => Err(of_reading(inputs, fault, path)),
     }
 }
 
-/// Tells what went over this port of a simulator, by the packets in a file.
+/// Tells what went over a port of a simulator, by the packets in a file.
 pub(crate) fn show_traffic<'a, I: Inputs, W: Write>(
     alloc: Global,
     inputs: &I,
     out: &mut W,
-    path: &'a str,
-    port: u16,
-    how: Telling,
+    task: &PacketsTask<'a>,
 ) -> Result<Status, Fault<'a>>
     ensures ok { IfOk result (λ status. (text : List ℕ)
-        × Performs (I.offers inputs.now) (ShowPackets path.entry port how.fields how.json)
-        status text
+        × Performs (I.offers inputs.now) (ShowPackets task.now) status text
         × Appends (W.contents out.old) (W.contents out.new) text) }
-    ensures err { IfErr result (λ fault.
-        Fails (I.offers inputs.now) (ShowPackets path.entry port how.fields how.json) fault) }
+    ensures err { IfErr result (λ fault. Fails (I.offers inputs.now) (ShowPackets task.now) fault) }
 {
-    let mut packets = opened(inputs, path)?;
-    match show_packets(alloc, &mut packets, out, port, how) {
+    let how = Telling {
+        fields: task.fields,
+        json: task.json,
+    };
+    let mut packets = opened(inputs, task.file)?;
+    match show_packets(alloc, &mut packets, out, task.port, how) {
         Ok(status) => Ok(status),
-        Err(fault) => Err(of_reading(inputs, fault, path)),
+        Err(fault) => Err(of_reading(inputs, fault, task.file)),
     }
 }
 
@@ -144,11 +107,8 @@ pub(crate) fn show_memory<'a, I: Inputs, W: Write>(
         × Appends (W.contents out.old) (W.contents out.new) text) }
     ensures err { IfErr result (λ fault. Fails (I.offers inputs.now) (ShowNv path.entry) fault) }
 {
-    let mut memory = opened(inputs, path)?;
-    match read_up_to(alloc, &mut memory, MOST_READ) {
-        Ok(bytes) => Ok(show_nv(alloc, out, bytes.as_slice())?),
-        Err(fault) => Err(of_reading(inputs, fault, path)),
-    }
+    let bytes = bytes_at(alloc, inputs, path, MOST_READ)?;
+    Ok(show_nv(alloc, out, bytes.as_slice())?)
 }
 
 /// Runs the script on standard input, on a new device.

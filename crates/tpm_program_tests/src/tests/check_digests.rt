@@ -4,7 +4,7 @@ use crate::tests::check_logs::{LOG, options};
 use crate::tests::output_reads::{Answered, each_read_may_fail, is_answered};
 use std::alloc::{AllocError, Global};
 use std::test::Fail;
-use tpm_check::{check_allowed, check_extends};
+use tpm_check::{Asked, check_boot, check_extends};
 use tpm_options::CheckOptions;
 use tpm_output::status::Status;
 use tpm_testing::Pieces;
@@ -32,7 +32,13 @@ fn any_quote() -> CheckOptions<'static> {
 
 fn compared(alloc: Global, log: &mut Pieces<'_>, attest: &[u8], allow: &str) -> Answered {
     let mut out = Vec::new(alloc);
-    let status = check_allowed(alloc, log, &any_quote(), attest, allow.as_bytes(), &mut out);
+    let any = any_quote();
+    let asked = Asked {
+        options: &any,
+        attest: Some(attest),
+        allow: Some(allow.as_bytes()),
+    };
+    let status = check_boot(alloc, log, &asked, &mut out);
     (status, out)
 }
 

@@ -5,7 +5,7 @@ use std::alloc::Global;
 use std::mem;
 use std::process::Abort;
 use std::test::Fail;
-use tpm_check::check_log;
+use tpm_check::{Asked, check_log};
 use tpm_options::CheckOptions;
 use tpm_output::fault::ToolFault;
 use tpm_output::status::Status;
@@ -47,11 +47,26 @@ pub(crate) fn options(quote: Option<&'static str>) -> CheckOptions<'static> {
     }
 }
 
+// The same, without a quote as it was signed.
+pub(crate) fn asked<'a, 'o>(options: &'a CheckOptions<'o>) -> Asked<'a, 'o> {
+    Asked {
+        options,
+        attest: None,
+        allow: None,
+    }
+}
+
 // What a log, a list and the quote answer, and what was written.
 fn checked(alloc: Global, log: &mut Pieces<'_>, list: &mut Pieces<'_>) -> Answered {
     let mut out = Vec::new(alloc);
     let mut lent = Some(mem::replace(list, Pieces::new(&[], 1)));
-    let status = check_log(alloc, log, &options(Some(QUOTE)), None, &mut lent, &mut out);
+    let status = check_log(
+        alloc,
+        log,
+        &asked(&options(Some(QUOTE))),
+        &mut lent,
+        &mut out,
+    );
     if let Some(lent) = lent {
         *list = lent;
     }

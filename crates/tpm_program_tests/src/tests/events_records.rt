@@ -1,13 +1,14 @@
 //! The records of logs that come in pieces, and reads that fail.
 
-use crate::tests::check_logs::{LOG, options};
+use crate::tests::check_logs::{LOG, asked, options};
 use crate::tests::output_reads::{Answered, each_read_may_fail, is_answered};
 use std::alloc::Global;
 use std::io;
 use std::io::Write;
 use std::test::Fail;
-use tpm_check::check_secure_boot;
-use tpm_events::{Listing, list_events};
+use tpm_check::check_boot;
+use tpm_events::list_events;
+use tpm_options::Listing;
 use tpm_output::status::Status;
 use tpm_testing::Pieces;
 
@@ -54,7 +55,7 @@ const UNKNOWN: &str =
 
 fn told(alloc: Global, log: &mut Pieces<'_>) -> Answered {
     let mut out = Vec::new(alloc);
-    let status = check_secure_boot(alloc, log, &options(None), None, &mut out);
+    let status = check_boot(alloc, log, &asked(&options(None)), &mut out);
     (status, out)
 }
 

@@ -158,7 +158,7 @@ fn check<W: Write>(
     let log = &mut SliceSource::new(log.as_slice());
     let mut list = list.map(|list| SliceSource::new(list.as_bytes()));
     let options = check_logs::options(Some(check_logs::QUOTE));
-    check_log(alloc, log, &options, None, &mut list, out)
+    check_log(alloc, log, &check_logs::asked(&options), &mut list, out)
 }
 
 fn list<W: Write>(alloc: Global, out: &mut W, log: &str) -> Result<Status, ToolFault> {

@@ -1,6 +1,7 @@
-use Rattle.std.proofs.Common.{◌++◌, option_map}
+use Rattle.std.proofs.Common.{◌++◌}
 use Rattle.std.proofs.lemmas.Result.{IfOk-weaker}
 use Rattle.tpm_output.proofs.Joins.{joins_appends}
+use Rattle.tpm_check.specs.Asked.{asked_by}
 use Rattle.tpm_check.specs.CheckJson.{ok_text}
 use Rattle.tpm_check.specs.inner.Told.{told}
 use Rattle.tpm_check.proofs.Verdicts.{to_end}
@@ -12,11 +13,10 @@ returns-clause-ok g c =
     let said = c.in_ok-status.ensures.ok in
     let status = c.in_ok-status.status in
     let end = ok_text c.args.found.now.json status in
-    let attest = option_map (λ a. a.now) c.args.attest in
     IfOk-weaker c.print_ok.result _ _ (λ same printed. (
       said.0,
       said.1 ++ end,
       said.2,
-      to_end (told c.args.found.now) c.args.options.now (record { attest = attest; list = said.0 }) same status said.1 printed.0 said.3,
+      to_end (told c.args.found.now) (asked_by c.args.asked.now) said.0 same status said.1 printed.0 said.3,
       joins_appends (contents c.args.out.now) (contents c.print_compared.new.out) (contents c.print_ok.new.out) said.1 end said.4 printed.1,
     )) c.print_ok.ensures.ok

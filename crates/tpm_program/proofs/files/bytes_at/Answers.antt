@@ -1,7 +1,7 @@
 use Rattle.std.proofs.Common.{Err, ap}
 use Rattle.tpm_output.specs.declared.fault.ToolFault.{ToolFault}
 use Rattle.tpm_program.proofs.Checks.{at_reading}
-use Rattle.tpm_program.proofs.logs.attest_at.Goals as goal
+use Rattle.tpm_program.proofs.files.bytes_at.Goals as goal
 
 pub returns-clause-err : goal.returns-clause-err
 returns-clause-err g c =

@@ -1,5 +1,5 @@
 use Rattle.std.proofs.lemmas.Result.{IfOk-weaker}
-use Rattle.tpm_check.proofs.quoted_boot.check_secure_boot.Goals as goal
+use Rattle.tpm_check.proofs.quoted_boot.check_boot.Goals as goal
 
 pub returns-clause-ok : goal.returns-clause-ok
 returns-clause-ok g c =
