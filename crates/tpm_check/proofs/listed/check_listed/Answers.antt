@@ -2,11 +2,11 @@ use Rattle.std.proofs.Common.{inl, inr, refl, string_bytes, ◌∙◌}
 use Rattle.std.proofs.lemmas.Result.{IfOk-weaker}
 use Rattle.tpm_check.proofs.listed.check_listed.Goals as goal
 
-pub returns-in_ok-answer_to_log-clause-ok : goal.returns-in_ok-answer_to_log-clause-ok
-returns-in_ok-answer_to_log-clause-ok g c =
+pub returns-in_ok-answer_to_log-in-Ok-clause-ok : goal.returns-in_ok-answer_to_log-in-Ok-clause-ok
+returns-in_ok-answer_to_log-in-Ok-clause-ok g c =
     let log = c.in-Ok.found.log in
-    let answer = c.in_ok-answer_to_log.field-0 in
-    let said = c.in_ok-answer_to_log.ensures in
+    let answer = c.in_ok-answer_to_log-in-Ok.field-0 in
+    let said = c.in_ok-answer_to_log-in-Ok.ensures in
     let told = c.in-Ok.ensures.ok in
     IfOk-weaker c.print.result _ _ (λ status printed. (
       string_bytes answer.text,
@@ -18,6 +18,6 @@ pub returns-in-Err-clause-ok : goal.returns-in-Err-clause-ok
 returns-in-Err-clause-ok g c =
     IfOk-weaker c.tell_fault.result _ _ (λ status printed. (
       _,
-      inr (c.in-Err.fault, c.in-Err.ensures, printed.0, refl),
+      inr (c.in-Err.fault, c.in-Err.ensures.err, printed.0, refl),
       printed.1,
     )) c.tell_fault.ensures.ok
