@@ -542,7 +542,7 @@ PROGRAM
     sed 's/\([0-9]\),\([0-9]\)/\1\2/g' docs/USING.md | grep -q -F "$("$room/rooms")" || { "$room/rooms" && return 1; }
 }
 
-# in_flash: what firmware takes of the archive by LLVM: at most 40 KB to decode, 110 for a device, 64 for a caller,
+# in_flash: what firmware takes of the archive by LLVM: at most 40 KB to decode, 110 for a device, 60 for a caller,
 # and 60 for a log or a quote.
 in_flash() {
     CC="$compiler" bench/flash "$archive" >"$room/flash" || return 1
@@ -551,7 +551,7 @@ in_flash() {
         $2 ~ /tpm_command_decode/ { most = 40 }
         $2 ~ /tpm_device_init/ { most = 110 }
         $2 ~ /tpm_log_/ { most = 60 }
-        $2 ~ /tpm_caller_/ { most = 64 }
+        $2 ~ /tpm_caller_/ { most = 60 }
         most { rows++ }
         most && $3 + 0 > 1024 * most { print; wrong = 1 }
         END { exit wrong || rows != 6 }

@@ -10,10 +10,9 @@ ghost use Rattle.tpm_device.specs.inner.Actions.{acted, step_of, Steps};
 
 use crate::device::Device;
 use tpm_commands::{
-    Params, ReplyBody, StartAuth, bind_in, first_handle, index_in, nv_auth_in, pcr_or_null_in,
-    policy_in, register_in, second_handle,
+    Params, ReplyBody, bind_in, first_handle, index_in, nv_auth_in, pcr_or_null_in, policy_in,
+    register_in, second_handle,
 };
-use tpm_wire::Duplicate;
 
 impl Device {
     /// Does what the command of these handles and parameters asks for, and leaves its reply in the body.
@@ -49,11 +48,7 @@ impl Device {
                 Ok(())
             }
             Params::StartAuthSession(params) => {
-                let start = StartAuth {
-                    bind: bind_in(second),
-                    params: params.duplicate(),
-                };
-                self.start_session(&start, nonce, body)
+                self.start_session(bind_in(second), params, nonce, body)
             }
             Params::FlushContext(session) => self.flush(*session, body),
             Params::PolicyPcr(asked) => {

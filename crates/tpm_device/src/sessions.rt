@@ -9,8 +9,9 @@ ghost use Rattle.tpm_device.specs.Stands.{holds};
 ghost use Rattle.tpm_device.specs.inner.Actions.{acted, step_of, Steps};
 
 use crate::device::Device;
-use tpm_commands::{ReplyBody, StartAuth, StartReply};
-use tpm_types::SessionHandle;
+use tpm_commands::{ReplyBody, StartAuth, StartParams, StartReply};
+use tpm_types::{BindHandle, SessionHandle};
+use tpm_wire::Duplicate;
 
 impl Device {
     // TPM2_StartAuthSession (Part 3, 11.1).
@@ -25,21 +26,30 @@ impl Device {
         self.sessions.start(start, self.owner.as_slice(), nonce)
     }
 
-    // The same, which leaves its reply in the body as each action does.
+    // The same, of its parameters and what it is bound to, which leaves its reply in the body as each action does. It
+    // is out of line, so that no other action has the room of these.
+    #[inline(never)]
     pub(crate) fn start_session(
         &mut self,
-        start: &StartAuth,
+        bind: BindHandle,
+        params: &StartParams,
         nonce: &[u8; 64],
         body: &mut ReplyBody,
     ) -> Result<(), u32>
         ensures answer { acted body.new result ≡
-            action (holds self.old) (bodies.StartAuthSession start.now) nonce.now }
+            action (holds self.old)
+            (bodies.StartAuthSession (record { bind = bind; params = params.now })) nonce.now }
         ensures stands { OnOk result
             (Steps self.old self.new
-            (step_of (bodies.StartAuthSession start.now) body.new nonce.now)) }
+            (step_of (bodies.StartAuthSession (record { bind = bind; params = params.now }))
+            body.new nonce.now)) }
         ensures refused { OnErr result (self.new ≡ self.old) }
     {
-        let reply = self.started(start, nonce)?;
+        let start = StartAuth {
+            bind,
+            params: params.duplicate(),
+        };
+        let reply = self.started(&start, nonce)?;
         *body = ReplyBody::StartAuthSession(reply);
         Ok(())
     }

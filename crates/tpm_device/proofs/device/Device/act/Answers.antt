@@ -3,7 +3,6 @@ use Rattle.std.specs.Prelude.{OnOk}
 use Rattle.tpm_types.specs.declared.handle_sets.NvAuthHandle.{NvAuthHandle}
 use Rattle.tpm_types.specs.declared.handle_sets.BindHandle.{BindHandle}
 use Rattle.tpm_commands.specs.declared.command.CommandBody.{CommandBody}
-use Rattle.tpm_commands.specs.declared.commands.session.StartParams.{StartParams}
 use Rattle.tpm_commands.specs.Handles.{first, second}
 use Rattle.tpm_commands.specs.declared.command.CommandBody.TheVariants as bodies
 use Rattle.tpm_commands.specs.declared.command.Params.TheVariants as params
@@ -55,17 +54,17 @@ returns-in-PcrRead-clause-stands c =
 
 pub returns-in-StartAuthSession-clause-answer : goal.returns-in-StartAuthSession-clause-answer
 returns-in-StartAuthSession-clause-answer c =
-    let is : bodies.StartAuthSession (record { bind = c.bind_in.result; params = c.duplicate.result }) ≡ body_from c.args.handles.now c.args.params.now =
+    let is : bodies.StartAuthSession (record { bind = c.bind_in.result; params = c.in-StartAuthSession.params })
+    ≡ body_from c.args.handles.now c.args.params.now =
     rw c.in-StartAuthSession.is
-    (ap (λ (b : BindHandle). bodies.StartAuthSession (record { bind = b; params = c.duplicate.result }))
-    (c.bind_in.ensures ∙ ap bind_in c.second_handle-second.ensures)
-    ∙ ap (λ (p : StartParams). bodies.StartAuthSession (record { bind = bind_in (second c.args.handles.now); params = p })) c.duplicate.ensures) in
+    (ap (λ (b : BindHandle). bodies.StartAuthSession (record { bind = b; params = c.in-StartAuthSession.params }))
+    (c.bind_in.ensures ∙ ap bind_in c.second_handle-second.ensures)) in
     subst (λ (b : CommandBody). acted c.start_session.new.body c.start_session.result ≡ action (holds c.args.self.now) b c.args.nonce.now) is
-    (c.start_session.ensures.answer)
+    c.start_session.ensures.answer
 
 pub returns-in-StartAuthSession-clause-stands : goal.returns-in-StartAuthSession-clause-stands
 returns-in-StartAuthSession-clause-stands c =
-    rw c.in-StartAuthSession.is (rw (c.bind_in.ensures, c.second_handle-second.ensures, c.duplicate.ensures) at (c.start_session.ensures.stands))
+    rw c.in-StartAuthSession.is (rw (c.bind_in.ensures, c.second_handle-second.ensures) at (c.start_session.ensures.stands))
 
 pub returns-in-FlushContext-clause-answer : goal.returns-in-FlushContext-clause-answer
 returns-in-FlushContext-clause-answer c = rw c.in-FlushContext.is (c.flush.ensures.answer c.args.nonce.now)
