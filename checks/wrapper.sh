@@ -244,7 +244,7 @@ wrapped --build show 'a  b' '' '*'
 wants '<show>' '<a  b>' '<>' '<*>' "in $wrapper/elsewhere" given
 says "a build is made where it is asked for, and words, input, output and status are passed on" 3 1 0
 complains "a build says which crates are proved" \
-    'tpmtool: proving and building the program, which takes half an hour on four cores the first time' \
+    'tpmtool: proving and building the program, which takes half an hour to an hour on four cores the first time' \
     'tpmtool: low is proved' complaint
 wrapped show 'a  b' '' '*'
 says "what is built is not built again" 3 1 0
