@@ -1,4 +1,6 @@
 pub mod Numbers
+pub mod Reading
+pub mod Headers
 pub mod Links
 pub mod Blocks
 pub mod Savefiles

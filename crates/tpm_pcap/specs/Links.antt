@@ -1,8 +1,9 @@
 -- What stands before a packet of the internet (libpcap, "Link-layer header types").
-use Rattle.std.specs.Prelude.{ℕ, ◌==◌, ◌||◌, Bool, true, List, Option, Some, None, if◌then◌else◌}
+use Rattle.std.specs.Prelude.{ℕ, ◌==◌, ◌||◌, Bool, true, Option, Some, None, if◌then◌else◌}
+use Rattle.std.specs.Int.{w16, w32}
 use Rattle.tpm_pcap.specs.declared.link.Link.TheVariants.{Raw, Loopback, Ethernet, Cooked, Cooked2}
 use Rattle.tpm_pcap.specs.declared.link.Link.{Link}
-use Rattle.tpm_pcap.specs.Numbers.{number2}
+use Rattle.tpm_pcap.specs.Reading.{Reads, byte, done, field, number, raw}
 
 -- LINKTYPE_NULL and LINKTYPE_LOOP, LINKTYPE_ETHERNET, LINKTYPE_RAW, LINKTYPE_IPV4 and LINKTYPE_IPV6,
 -- LINKTYPE_LINUX_SLL, LINKTYPE_LINUX_SLL2
@@ -15,21 +16,34 @@ link_of number =
     else if number == 276 then Some Cooked2
     else None
 
--- how many bytes
-abbrev pub head_size : Link → ℕ
-head_size Raw = 0
-head_size Loopback = 4
-head_size Ethernet = 14
-head_size Cooked = 16
-head_size Cooked2 = 20
-
 -- the types of IPv4 and IPv6 (IEEE 802 numbers)
 abbrev pub is_internet : ℕ → Bool
 is_internet kind = kind == 0x0800 || kind == 0x86dd
 
-abbrev pub carries_internet : Link → List ℕ → Bool
-carries_internet Raw bytes = true
-carries_internet Loopback bytes = true
-carries_internet Ethernet bytes = is_internet (number2 bytes 12)
-carries_internet Cooked bytes = is_internet (number2 bytes 14)
-carries_internet Cooked2 bytes = is_internet (number2 bytes 0)
+-- what stands before a packet: whether that is one of the internet
+unfoldable pub link_header : Link → Reads Bool
+link_header Raw = done true
+link_header Loopback =
+    field (number w32) (λ address_family.
+    done true)
+link_header Ethernet =
+    field (raw 6) (λ destination.
+    field (raw 6) (λ source.
+    field (number w16) (λ ether_type.
+    done (is_internet ether_type))))
+link_header Cooked =
+    field (number w16) (λ packet_type.
+    field (number w16) (λ device_type.
+    field (number w16) (λ address_length.
+    field (raw 8) (λ address.
+    field (number w16) (λ protocol.
+    done (is_internet protocol))))))
+link_header Cooked2 =
+    field (number w16) (λ protocol.
+    field (number w16) (λ reserved.
+    field (number w32) (λ device.
+    field (number w16) (λ device_type.
+    field byte (λ packet_type.
+    field byte (λ address_length.
+    field (raw 8) (λ address.
+    done (is_internet protocol))))))))

@@ -1,9 +1,12 @@
 -- The messages of a simulator's connection: mssim's, which begin with two bytes that are 0, and swtpm's, which are
 -- frames and begin with a tag.
-use Rattle.std.specs.Prelude.{ℕ, ◌+◌, ◌==◌, ◌||◌, nat_lt, not, Bool, true, false, List, length, if◌then◌else◌}
+use Rattle.std.specs.Prelude.{ℕ, ◌+◌, ◌==◌, ◌||◌, nat_lt, Bool, true, false, List, length, Option, Some, None}
+use Rattle.std.specs.Prelude.{if◌then◌else◌}
+use Rattle.std.specs.Int.{w16, w32}
 use Rattle.tpm_pcap.specs.declared.message.Measure.TheVariants.{More, Frame, Silent, Broken}
 use Rattle.tpm_pcap.specs.declared.message.Measure.{Measure}
-use Rattle.tpm_pcap.specs.Numbers.{number2, number4}
+use Rattle.tpm_pcap.specs.declared.numbers.Order.TheVariants.{Big}
+use Rattle.tpm_pcap.specs.Reading.{Reads, at_front, byte, field, number}
 
 -- TPM_ST_NO_SESSIONS, TPM_ST_SESSIONS and TPM_ST_RSP_COMMAND (Part 2, 6.9)
 abbrev pub is_tag : ℕ → Bool
@@ -17,36 +20,54 @@ of_size before size behind held =
     else More
 
 -- swtpm: the frame states its size behind its tag (Part 1, "Command/Response Structure"), of 10 at least
-abbrev pub bare : List ℕ → Measure
-bare held =
-    if nat_lt (length held) 6 then More
-    else if nat_lt (number4 held 2) 10 then Broken
-    else of_size 0 (number4 held 2) 0 held
+abbrev pub frame_size : Reads ℕ
+frame_size = field (number w16) (λ tag. number w32)
+
+abbrev pub bare_by : List ℕ → Option ℕ → Measure
+bare_by held None = More
+bare_by held (Some size) = if nat_lt size 10 then Broken else of_size 0 size 0 held
+
+unfoldable pub bare : List ℕ → Measure
+bare held = bare_by held (at_front frame_size Big held)
 
 -- mssim, to the simulator: TPM_SESSION_END (20) alone, or TPM_SEND_COMMAND (8), the locality, and a size before the
 -- command (TPM 2.0 reference code, TpmTcpProtocol.h)
-abbrev pub to_simulator : List ℕ → Measure
-to_simulator held =
-    if nat_lt (length held) 4 then More
-    else if number4 held 0 == 20 then Silent
-    else if not (number4 held 0 == 8) then Broken
-    else if nat_lt (length held) 9 then More
-    else of_size 9 (number4 held 5) 0 held
+abbrev pub command_size : Reads ℕ
+command_size = field (number w32) (λ code. field byte (λ locality. number w32))
+
+abbrev pub sent_by : List ℕ → Option ℕ → Measure
+sent_by held None = More
+sent_by held (Some size) = of_size 9 size 0 held
+
+abbrev pub to_by : List ℕ → Option ℕ → Measure
+to_by held None = More
+to_by held (Some code) =
+    if code == 20 then Silent
+    else if code == 8 then sent_by held (at_front command_size Big held)
+    else Broken
+
+unfoldable pub to_simulator : List ℕ → Measure
+to_simulator held = to_by held (at_front (number w32) Big held)
 
 -- mssim, from the simulator: a size, the response, and four bytes that end it
-abbrev pub from_simulator : List ℕ → Measure
-from_simulator held =
-    if nat_lt (length held) 4 then More
-    else of_size 4 (number4 held 0) 4 held
+abbrev pub from_by : List ℕ → Option ℕ → Measure
+from_by held None = More
+from_by held (Some size) = of_size 4 size 4 held
+
+unfoldable pub from_simulator : List ℕ → Measure
+from_simulator held = from_by held (at_front (number w32) Big held)
 
 abbrev pub mssim : (to_tpm : Bool) → List ℕ → Measure
 mssim true held = to_simulator held
 mssim false held = from_simulator held
 
+abbrev pub measured_by : (to_tpm : Bool) → List ℕ → Option ℕ → Measure
+measured_by to_tpm held None = More
+measured_by to_tpm held (Some tag) =
+    if is_tag tag then bare held
+    else if tag == 0 then mssim to_tpm held
+    else Broken
+
 -- what bytes of a way are, from the beginning of a message
 unfoldable pub measured : (to_tpm : Bool) → List ℕ → Measure
-measured to_tpm held =
-    if nat_lt (length held) 2 then More
-    else if is_tag (number2 held 0) then bare held
-    else if not (number2 held 0 == 0) then Broken
-    else mssim to_tpm held
+measured to_tpm held = measured_by to_tpm held (at_front (number w16) Big held)

@@ -1,10 +1,13 @@
 -- Segments of TCP on the port of a simulator (RFC 9293, 3.1; RFC 791, 3.1; RFC 8200, 3 and 4.5).
-use Rattle.std.specs.Prelude.{ℕ, ◌-◌, ◌*◌, ◌/◌, ◌%◌, ◌==◌, ◌||◌, nat_lt, not, Bool, true, false, List, length}
-use Rattle.std.specs.Prelude.{take, drop, slice_index, Option, Some, None, if◌then◌else◌}
+use Rattle.std.specs.Prelude.{ℕ, ◌-◌, ◌*◌, ◌/◌, ◌%◌, ◌==◌, ◌||◌, nat_lt, not, Bool, true, false, List, [], ◌∷◌}
+use Rattle.std.specs.Prelude.{take, drop, Option, Some, None, if◌then◌else◌}
 use Rattle.tpm_pcap.specs.declared.link.Link.{Link}
 use Rattle.tpm_pcap.specs.declared.segment.Sought.{Sought}
-use Rattle.tpm_pcap.specs.Links.{head_size, carries_internet}
-use Rattle.tpm_pcap.specs.Numbers.{number2, number4}
+use Rattle.tpm_pcap.specs.declared.headers.TcpHeader.{TcpHeader}
+use Rattle.tpm_pcap.specs.declared.numbers.Order.TheVariants.{Big}
+use Rattle.tpm_pcap.specs.Headers.{Ends, Version4, Version6, tcp_header, version4_header, version6_header}
+use Rattle.tpm_pcap.specs.Links.{link_header}
+use Rattle.tpm_pcap.specs.Reading.{Place, at_front, big_endian}
 
 -- a segment on the port: whether it goes to the TPM, the addresses of the client and of the simulator, the client's
 -- port, the number of its first byte, whether it opens its way of the connection, how many bytes it carries, and those
@@ -27,11 +30,6 @@ pub data Carried : Type 0 where
   UnknownLink : Carried
   OnPort : Segment → Carried
 
--- the addresses of a packet
-pub record Ends : Type 0 where
-  pub source : List ℕ
-  pub target : List ℕ
-
 -- The packet ends before a header does. So it is, or so it was captured.
 abbrev pub lacking : (whole : Bool) → Carried
 lacking true = Other
@@ -43,74 +41,81 @@ lacking false = Lacking
 abbrev pub opens : ℕ → Bool
 opens flags = (flags / 2) % 2 == 1
 
--- Data Offset: how many bytes the header has
-abbrev pub tcp_head : List ℕ → ℕ
-tcp_head tcp = (slice_index tcp 12 / 16) * 4
-
--- the segment on this port that carries so many bytes
-abbrev pub segment_of : (port : ℕ) → Ends → (size : ℕ) → (tcp : List ℕ) → Segment
-segment_of port ends size tcp = record {
-  to_tpm = number2 tcp 2 == port;
-  client = if number2 tcp 2 == port then ends.source else ends.target;
-  simulator = if number2 tcp 2 == port then ends.target else ends.source;
-  port = if number2 tcp 2 == port then number2 tcp 0 else number2 tcp 2;
-  number = number4 tcp 4;
-  opens = opens (slice_index tcp 13);
+-- the segment on this port that carries so many bytes, of which these were captured
+abbrev pub segment_of : (port : ℕ) → Ends → TcpHeader → (size : ℕ) → List ℕ → Segment
+segment_of port ends tcp size payload = record {
+  to_tpm = tcp.destination_port == port;
+  client = if tcp.destination_port == port then ends.source else ends.target;
+  simulator = if tcp.destination_port == port then ends.target else ends.source;
+  port = if tcp.destination_port == port then tcp.source_port else tcp.destination_port;
+  number = tcp.sequence_number;
+  opens = opens tcp.control_bits;
   size = size;
-  payload = take size (drop (tcp_head tcp) tcp);
+  payload = payload;
 }
 
-abbrev pub is_on_port : (port : ℕ) → List ℕ → Bool
-is_on_port port tcp = number2 tcp 0 == port || number2 tcp 2 == port
+abbrev pub is_on_port : (port : ℕ) → TcpHeader → Bool
+is_on_port port tcp = tcp.source_port == port || tcp.destination_port == port
+
+abbrev pub tcp_by : Sought → Ends → (size : ℕ) → List ℕ → Option TcpHeader → Carried
+tcp_by sought ends size bytes None = lacking sought.whole
+tcp_by sought ends size bytes (Some tcp) =
+    if not (is_on_port sought.port tcp) then Other
+    else if nat_lt (tcp.data_offset * 4) 20 || nat_lt size (tcp.data_offset * 4) then Other
+    else OnPort (segment_of sought.port ends tcp (size - tcp.data_offset * 4)
+    (take (size - tcp.data_offset * 4) (drop (tcp.data_offset * 4) bytes)))
 
 -- in so many bytes of TCP, of which these were captured
 unfoldable pub in_tcp : Sought → Ends → (size : ℕ) → List ℕ → Carried
-in_tcp sought ends size tcp =
-    if nat_lt (length tcp) 20 then lacking sought.whole
-    else if not (is_on_port sought.port tcp) then Other
-    else if nat_lt (tcp_head tcp) 20 || nat_lt size (tcp_head tcp) then Other
-    else OnPort (segment_of sought.port ends (size - tcp_head tcp) tcp)
+in_tcp sought ends size bytes = tcp_by sought ends size bytes (at_front tcp_header Big bytes)
 
 -- ---- IP
+
+abbrev pub version4_by : Sought → List ℕ → Option Version4 → Carried
+version4_by sought bytes None = lacking sought.whole
+version4_by sought bytes (Some ip) =
+    if not (ip.protocol == 6) then Other
+    else if not (ip.flags_and_offset % 16384 == 0) then Fragment
+    else in_tcp sought ip.ends (ip.total_length - ip.header_length * 4) (drop (ip.header_length * 4) bytes)
 
 -- in a packet of IPv4: Protocol is TCP, it is no fragment (More Fragments and Fragment Offset are 0), and Total Length
 -- says how many bytes it has
 unfoldable pub in_version4 : Sought → List ℕ → Carried
-in_version4 sought bytes =
-    if nat_lt (length bytes) 20 then lacking sought.whole
-    else if not (slice_index bytes 9 == 6) then Other
-    else if not (number2 bytes 6 % 16384 == 0) then Fragment
-    else in_tcp sought (record { source = take 4 (drop 12 bytes); target = take 4 (drop 16 bytes) })
-    (number2 bytes 2 - (slice_index bytes 0 % 16) * 4) (drop ((slice_index bytes 0 % 16) * 4) bytes)
+in_version4 sought bytes = version4_by sought bytes (at_front version4_header Big bytes)
 
--- a fragment of IPv6, by the protocol of what it is a part of
-abbrev pub fragment : ℕ → Carried
-fragment protocol = if protocol == 6 then Fragment else Other
+-- a fragment of IPv6, by the protocol of what it is a part of, which begins its header (RFC 8200, 4.5)
+abbrev pub fragment : List ℕ → Carried
+fragment [] = Other
+fragment (protocol ∷ header) = if protocol == 6 then Fragment else Other
+
+abbrev pub version6_by : Sought → Option (Version6 × Place) → Carried
+version6_by sought None = lacking sought.whole
+version6_by sought (Some x) =
+    if x.0.next_header == 44 then fragment x.1.rest
+    else if not (x.0.next_header == 6) then Other
+    else in_tcp sought x.0.ends x.0.payload_length x.1.rest
 
 -- in a packet of IPv6: Next Header is TCP, or a fragment of that
 unfoldable pub in_version6 : Sought → List ℕ → Carried
-in_version6 sought bytes =
-    if nat_lt (length bytes) 40 then lacking sought.whole
-    else if slice_index bytes 6 == 44 then fragment (slice_index bytes 40)
-    else if not (slice_index bytes 6 == 6) then Other
-    else in_tcp sought (record { source = take 16 (drop 8 bytes); target = take 16 (drop 24 bytes) }) (number2 bytes 4)
-    (drop 40 bytes)
+in_version6 sought bytes = version6_by sought (version6_header (big_endian bytes))
 
+-- in a packet of the internet, which begins with its version
 unfoldable pub in_internet : Sought → List ℕ → Carried
-in_internet sought bytes =
-    if slice_index bytes 0 / 16 == 4 then in_version4 sought bytes
-    else if slice_index bytes 0 / 16 == 6 then in_version6 sought bytes
-    else if length bytes == 0 then lacking sought.whole
+in_internet sought [] = lacking sought.whole
+in_internet sought (first ∷ others) =
+    if first / 16 == 4 then in_version4 sought (first ∷ others)
+    else if first / 16 == 6 then in_version6 sought (first ∷ others)
     else Other
 
 -- ---- a packet
 
+abbrev pub link_by : Sought → Option (Bool × Place) → Carried
+link_by sought None = lacking sought.whole
+link_by sought (Some x) = if x.0 then in_internet sought x.1.rest else Other
+
 -- in a packet of this kind of link, all of which was captured or not
 unfoldable pub carried_in : Link → Sought → List ℕ → Carried
-carried_in link sought bytes =
-    if nat_lt (length bytes) (head_size link) then lacking sought.whole
-    else if not (carries_internet link bytes) then Other
-    else in_internet sought (drop (head_size link) bytes)
+carried_in link sought bytes = link_by sought (link_header link (big_endian bytes))
 
 abbrev pub carried_by : Option Link → Sought → List ℕ → Carried
 carried_by None sought bytes = UnknownLink

@@ -1,9 +1,10 @@
 //! What stands before a packet of the internet.
 
-ghost use Rattle.std.specs.Prelude.{◌≡◌, ◌<◌};
-ghost use Rattle.tpm_pcap.specs.Links.{link_of, head_size, is_internet, carries_internet};
+ghost use Rattle.std.specs.Prelude.{◌≡◌};
+ghost use Rattle.tpm_pcap.specs.Links.{link_of, link_header, is_internet};
+ghost use Rattle.tpm_pcap.specs.inner.Reading.{Takes};
 
-use crate::numbers::number2;
+use crate::reader::Reader;
 
 /// A kind of link, by what stands before each packet of it (libpcap, "Link-layer header types").
 #[derive(Clone, Copy, Debug, PartialEq, Eq)]
@@ -34,33 +35,44 @@ pub(crate) fn link_of(number: u32) -> Option<Link>
     }
 }
 
-/// How many bytes stand before a packet.
-pub(crate) fn head_size(link: Link) -> usize
-    ensures { result ≡ head_size link }
-{
-    match link {
-        Link::Raw => 0,
-        Link::Loopback => 4,
-        Link::Ethernet => 14,
-        Link::Cooked => 16,
-        Link::Cooked2 => 20,
-    }
-}
-
-fn is_internet(kind: u32) -> bool
+fn is_internet(kind: u16) -> bool
     ensures { result ≡ is_internet kind }
 {
     kind == 0x0800 || kind == 0x86dd
 }
 
-/// Whether a packet of the internet stands behind.
-pub(crate) fn carries_internet(link: Link, bytes: &[u8]) -> bool
-    ensures { result ≡ carries_internet link bytes.now }
+/// What stands before a packet, if there is all of it: whether that is one of the internet.
+#[tactic(auto, unfolding(crate::specs::Links::link_header))]
+pub(crate) fn link_header(link: Link, packet: &mut Reader<'_>) -> Option<bool>
+    ensures { Takes (link_header link) packet.old packet.new result }
 {
     match link {
-        Link::Raw | Link::Loopback => true,
-        Link::Ethernet => is_internet(number2(bytes, 12)),
-        Link::Cooked => is_internet(number2(bytes, 14)),
-        Link::Cooked2 => is_internet(number2(bytes, 0)),
+        Link::Raw => Some(true),
+        Link::Loopback => {
+            let _address_family = packet.u32()?;
+            Some(true)
+        }
+        Link::Ethernet => {
+            let _destination = packet.bytes(6)?;
+            let _source = packet.bytes(6)?;
+            Some(is_internet(packet.u16()?))
+        }
+        Link::Cooked => {
+            let _packet_type = packet.u16()?;
+            let _device_type = packet.u16()?;
+            let _address_length = packet.u16()?;
+            let _address = packet.bytes(8)?;
+            Some(is_internet(packet.u16()?))
+        }
+        Link::Cooked2 => {
+            let protocol = packet.u16()?;
+            let _reserved = packet.u16()?;
+            let _device = packet.u32()?;
+            let _device_type = packet.u16()?;
+            let _packet_type = packet.u8()?;
+            let _address_length = packet.u8()?;
+            let _address = packet.bytes(8)?;
+            Some(is_internet(protocol))
+        }
     }
 }

@@ -2,13 +2,24 @@
 
 ghost use Rattle.std.specs.Prelude.{◌≡◌, ◌<◌, take, drop};
 ghost use Rattle.tpm_pcap.specs.Segments.{fragment, carried_by, carried_in, in_internet, in_tcp};
-ghost use Rattle.tpm_pcap.specs.inner.Segments.{ends_as, carried_as};
 ghost use Rattle.tpm_pcap.specs.Segments.{in_version4, in_version6, is_on_port, lacking, opens};
-ghost use Rattle.tpm_pcap.specs.inner.Segments.{IsSmall, segment_as};
-ghost use Rattle.tpm_pcap.specs.Segments.{segment_of, tcp_head};
+ghost use Rattle.tpm_pcap.specs.Segments.{segment_of};
+ghost use Rattle.tpm_pcap.specs.inner.Headers.{ends_as};
+ghost use Rattle.tpm_pcap.specs.inner.Segments.{IsSmall, carried_as, segment_as};
 
-use crate::link::{Link, carries_internet, head_size};
-use crate::numbers::{byte_at, number2, number4};
+use crate::headers::{Ends, TcpHeader, tcp_header, version4_header, version6_header};
+use crate::link::{Link, link_header};
+use crate::numbers::Order;
+use crate::reader::Reader;
+
+/// The number of TCP among what packets carry (RFC 9293; IANA, "Protocol Numbers").
+const TCP: u8 = 6;
+
+/// The number of a fragment's header (RFC 8200, 4.5).
+const FRAGMENT: u8 = 44;
+
+/// How many bytes the header of TCP has without options (RFC 9293, 3.1).
+const LEAST_HEADER: usize = 20;
 
 /// What is looked for in a packet.
 #[derive(Clone, Copy, Debug, PartialEq, Eq)]
@@ -17,13 +28,6 @@ pub(crate) struct Sought {
     pub(crate) port: u16,
     /// Whether all of the packet was captured.
     pub(crate) whole: bool,
-}
-
-/// The addresses of a packet.
-#[derive(Drop, Clone, Copy)]
-pub(crate) struct Ends<'a> {
-    pub(crate) source: &'a [u8],
-    pub(crate) target: &'a [u8],
 }
 
 /// A segment on the port.
@@ -36,7 +40,7 @@ pub(crate) struct Segment<'a> {
     /// The simulator's address.
     pub(crate) simulator: &'a [u8],
     /// The client's port.
-    pub(crate) port: u32,
+    pub(crate) port: u16,
     /// The number of its first byte.
     pub(crate) number: u32,
     /// Whether it opens its way of the connection.
@@ -83,48 +87,38 @@ fn opens(flags: u8) -> bool
     flags / 2 % 2 == 1
 }
 
-fn is_on_port(port: u16, tcp: &[u8]) -> bool
+fn is_on_port(port: u16, tcp: &TcpHeader) -> bool
     ensures { result ≡ is_on_port port tcp.now }
 {
-    number2(tcp, 0) == port as u32 || number2(tcp, 2) == port as u32
+    tcp.source_port == port || tcp.destination_port == port
 }
 
-// How many bytes the header has.
-fn tcp_head(tcp: &[u8]) -> usize
-    ensures { result ≡ tcp_head tcp.now }
+// The segment on this port that carries so many bytes, of which these were captured.
+fn segment_of<'a>(
+    port: u16,
+    ends: Ends<'a>,
+    tcp: &TcpHeader,
+    size: usize,
+    payload: &'a [u8],
+) -> Segment<'a>
+    ensures { segment_as result
+        ≡ segment_of port (ends_as ends.entry) tcp.now size payload.now }
 {
-    byte_at(tcp, 12) as usize / 16 * 4
-}
-
-// The segment on this port that carries so many bytes.
-fn segment_of<'a>(port: u16, ends: Ends<'a>, size: usize, tcp: &'a [u8]) -> Segment<'a>
-    ensures { segment_as result ≡ segment_of port (ends_as ends.entry) size tcp.now }
-{
-    let number = number4(tcp, 4);
-    let opens = opens(byte_at(tcp, 13));
-    let payload = front(behind(tcp, tcp_head(tcp)), size);
-    if number2(tcp, 2) == port as u32 {
-        Segment {
-            to_tpm: true,
-            client: ends.source,
-            simulator: ends.target,
-            port: number2(tcp, 0),
-            number,
-            opens,
-            size,
-            payload,
-        }
+    let to_tpm = tcp.destination_port == port;
+    let (client, simulator, port) = if to_tpm {
+        (ends.source, ends.target, tcp.source_port)
     } else {
-        Segment {
-            to_tpm: false,
-            client: ends.target,
-            simulator: ends.source,
-            port: number2(tcp, 2),
-            number,
-            opens,
-            size,
-            payload,
-        }
+        (ends.target, ends.source, tcp.destination_port)
+    };
+    Segment {
+        to_tpm,
+        client,
+        simulator,
+        port,
+        number: tcp.sequence_number,
+        opens: opens(tcp.control_bits),
+        size,
+        payload,
     }
 }
 
@@ -152,22 +146,24 @@ pub fn behind(bytes: &[u8], count: usize) -> &[u8]
 
 // What is in so many bytes of TCP, of which these were captured.
 #[tactic(auto, unfolding(crate::specs::Segments::in_tcp))]
-fn in_tcp<'a>(sought: Sought, ends: Ends<'a>, size: usize, tcp: &'a [u8]) -> Carried<'a>
+fn in_tcp<'a>(sought: Sought, ends: Ends<'a>, size: usize, bytes: &'a [u8]) -> Carried<'a>
     requires { size < 65536 }
-    ensures carried { carried_as result ≡ in_tcp sought (ends_as ends.entry) size tcp.now }
+    ensures carried { carried_as result ≡ in_tcp sought (ends_as ends.entry) size bytes.now }
     ensures small { IsSmall (carried_as result) }
 {
-    if tcp.len() < 20 {
+    let Some(tcp) = tcp_header(&mut Reader::new(Order::Big, bytes)) else {
         return lacking(sought.whole);
-    }
-    if !is_on_port(sought.port, tcp) {
+    };
+    if !is_on_port(sought.port, &tcp) {
         return Carried::Other;
     }
-    let head = tcp_head(tcp);
-    if head < 20 || size < head {
+    let head = tcp.data_offset as usize * 4;
+    if head < LEAST_HEADER || size < head {
         return Carried::Other;
     }
-    Carried::Segment(segment_of(sought.port, ends, size - head, tcp))
+    let carried = size - head;
+    let payload = front(behind(bytes, head), carried);
+    Carried::Segment(segment_of(sought.port, ends, &tcp, carried, payload))
 }
 
 // ---- IP
@@ -178,33 +174,28 @@ fn in_version4<'a>(sought: Sought, bytes: &'a [u8]) -> Carried<'a>
     ensures carried { carried_as result ≡ in_version4 sought bytes.now }
     ensures small { IsSmall (carried_as result) }
 {
-    if bytes.len() < 20 {
+    let Some(ip) = version4_header(&mut Reader::new(Order::Big, bytes)) else {
         return lacking(sought.whole);
-    }
-    if byte_at(bytes, 9) != 6 {
+    };
+    if ip.protocol != TCP {
         return Carried::Other;
     }
-    if number2(bytes, 6) % 16384 != 0 {
+    if ip.flags_and_offset % 16384 != 0 {
         return Carried::Fragment;
     }
-    let head = byte_at(bytes, 0) as usize % 16 * 4;
-    let size = (number2(bytes, 2) as usize).saturating_sub(head);
-    let ends = Ends {
-        source: &bytes[12..16],
-        target: &bytes[16..20],
-    };
-    in_tcp(sought, ends, size, behind(bytes, head))
+    let head = ip.header_length as usize * 4;
+    let size = (ip.total_length as usize).saturating_sub(head);
+    in_tcp(sought, ip.ends, size, behind(bytes, head))
 }
 
 // What a fragment of IPv6 is, by the protocol of what it is a part of.
-fn fragment<'a>(protocol: u8) -> Carried<'a>
-    ensures carried { carried_as result ≡ fragment protocol }
+fn fragment<'a>(header: &[u8]) -> Carried<'a>
+    ensures carried { carried_as result ≡ fragment header.now }
     ensures small { IsSmall (carried_as result) }
 {
-    if protocol == 6 {
-        Carried::Fragment
-    } else {
-        Carried::Other
+    match header {
+        [protocol, ..] if *protocol == TCP => Carried::Fragment,
+        _ => Carried::Other,
     }
 }
 
@@ -214,22 +205,17 @@ fn in_version6<'a>(sought: Sought, bytes: &'a [u8]) -> Carried<'a>
     ensures carried { carried_as result ≡ in_version6 sought bytes.now }
     ensures small { IsSmall (carried_as result) }
 {
-    if bytes.len() < 40 {
+    let mut packet = Reader::new(Order::Big, bytes);
+    let Some(ip) = version6_header(&mut packet) else {
         return lacking(sought.whole);
+    };
+    if ip.next_header == FRAGMENT {
+        return fragment(packet.rest());
     }
-    let next = byte_at(bytes, 6);
-    if next == 44 {
-        return fragment(byte_at(bytes, 40));
-    }
-    if next != 6 {
+    if ip.next_header != TCP {
         return Carried::Other;
     }
-    let size = number2(bytes, 4) as usize;
-    let ends = Ends {
-        source: &bytes[8..24],
-        target: &bytes[24..40],
-    };
-    in_tcp(sought, ends, size, behind(bytes, 40))
+    in_tcp(sought, ip.ends, ip.payload_length as usize, packet.rest())
 }
 
 // What is in a packet of the internet.
@@ -238,10 +224,12 @@ fn in_internet<'a>(sought: Sought, bytes: &'a [u8]) -> Carried<'a>
     ensures carried { carried_as result ≡ in_internet sought bytes.now }
     ensures small { IsSmall (carried_as result) }
 {
-    match byte_at(bytes, 0) / 16 {
+    let [first, ..] = bytes else {
+        return lacking(sought.whole);
+    };
+    match *first / 16 {
         4 => in_version4(sought, bytes),
         6 => in_version6(sought, bytes),
-        _ if bytes.is_empty() => lacking(sought.whole),
         _ => Carried::Other,
     }
 }
@@ -254,13 +242,12 @@ fn carried_in<'a>(link: Link, sought: Sought, bytes: &'a [u8]) -> Carried<'a>
     ensures carried { carried_as result ≡ carried_in link sought bytes.now }
     ensures small { IsSmall (carried_as result) }
 {
-    if bytes.len() < head_size(link) {
-        return lacking(sought.whole);
+    let mut packet = Reader::new(Order::Big, bytes);
+    match link_header(link, &mut packet) {
+        None => lacking(sought.whole),
+        Some(true) => in_internet(sought, packet.rest()),
+        Some(false) => Carried::Other,
     }
-    if !carries_internet(link, bytes) {
-        return Carried::Other;
-    }
-    in_internet(sought, &bytes[head_size(link)..])
 }
 
 /// What is in a packet of this kind of link, if that is known.

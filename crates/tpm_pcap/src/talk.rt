@@ -17,7 +17,7 @@ use std::alloc::{AllocError, Global};
 pub(crate) struct Talk {
     client: Vec<u8>,
     simulator: Vec<u8>,
-    port: u32,
+    port: u16,
     to: Way,
     back: Way,
 }
