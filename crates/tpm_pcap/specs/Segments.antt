@@ -5,7 +5,7 @@ use Rattle.tpm_pcap.specs.declared.link.Link.{Link}
 use Rattle.tpm_pcap.specs.declared.segment.Sought.{Sought}
 use Rattle.tpm_pcap.specs.declared.headers.TcpHeader.{TcpHeader}
 use Rattle.tpm_pcap.specs.declared.numbers.Order.TheVariants.{Big}
-use Rattle.tpm_pcap.specs.Headers.{Ends, Version4, Version6, tcp_header, version4_header, version6_header}
+use Rattle.tpm_pcap.specs.Headers.{Datagram, tcp_header, version4, version6}
 use Rattle.tpm_pcap.specs.Links.{link_header}
 use Rattle.tpm_pcap.specs.Reading.{Place, at_front, big_endian}
 
@@ -42,11 +42,11 @@ abbrev pub opens : ℕ → Bool
 opens flags = (flags / 2) % 2 == 1
 
 -- the segment on this port that carries so many bytes, of which these were captured
-abbrev pub segment_of : (port : ℕ) → Ends → TcpHeader → (size : ℕ) → List ℕ → Segment
-segment_of port ends tcp size payload = record {
+abbrev pub segment_of : (port : ℕ) → Datagram → TcpHeader → (size : ℕ) → List ℕ → Segment
+segment_of port ip tcp size payload = record {
   to_tpm = tcp.destination_port == port;
-  client = if tcp.destination_port == port then ends.source else ends.target;
-  simulator = if tcp.destination_port == port then ends.target else ends.source;
+  client = if tcp.destination_port == port then ip.source else ip.destination;
+  simulator = if tcp.destination_port == port then ip.destination else ip.source;
   port = if tcp.destination_port == port then tcp.source_port else tcp.destination_port;
   number = tcp.sequence_number;
   opens = opens tcp.control_bits;
@@ -57,54 +57,34 @@ segment_of port ends tcp size payload = record {
 abbrev pub is_on_port : (port : ℕ) → TcpHeader → Bool
 is_on_port port tcp = tcp.source_port == port || tcp.destination_port == port
 
-abbrev pub tcp_by : Sought → Ends → (size : ℕ) → List ℕ → Option TcpHeader → Carried
-tcp_by sought ends size bytes None = lacking sought.whole
-tcp_by sought ends size bytes (Some tcp) =
+abbrev pub tcp_by : Sought → Datagram → Option TcpHeader → Carried
+tcp_by sought ip None = lacking sought.whole
+tcp_by sought ip (Some tcp) =
     if not (is_on_port sought.port tcp) then Other
-    else if nat_lt (tcp.data_offset * 4) 20 || nat_lt size (tcp.data_offset * 4) then Other
-    else OnPort (segment_of sought.port ends tcp (size - tcp.data_offset * 4)
-    (take (size - tcp.data_offset * 4) (drop (tcp.data_offset * 4) bytes)))
+    else if nat_lt (tcp.data_offset * 4) 20 || nat_lt ip.size (tcp.data_offset * 4) then Other
+    else OnPort (segment_of sought.port ip tcp (ip.size - tcp.data_offset * 4)
+    (take (ip.size - tcp.data_offset * 4) (drop (tcp.data_offset * 4) ip.payload)))
 
--- in so many bytes of TCP, of which these were captured
-unfoldable pub in_tcp : Sought → Ends → (size : ℕ) → List ℕ → Carried
-in_tcp sought ends size bytes = tcp_by sought ends size bytes (at_front tcp_header Big bytes)
+-- in a packet of TCP
+unfoldable pub in_tcp : Sought → Datagram → Carried
+in_tcp sought ip = tcp_by sought ip (at_front tcp_header Big ip.payload)
 
 -- ---- IP
 
-abbrev pub version4_by : Sought → List ℕ → Option Version4 → Carried
-version4_by sought bytes None = lacking sought.whole
-version4_by sought bytes (Some ip) =
+-- in a packet that carries TCP, or a fragment of that
+abbrev pub in_datagram : Sought → Option Datagram → Carried
+in_datagram sought None = lacking sought.whole
+in_datagram sought (Some ip) =
     if not (ip.protocol == 6) then Other
-    else if not (ip.flags_and_offset % 16384 == 0) then Fragment
-    else in_tcp sought ip.ends (ip.total_length - ip.header_length * 4) (drop (ip.header_length * 4) bytes)
+    else if ip.is_fragment then Fragment
+    else in_tcp sought ip
 
--- in a packet of IPv4: Protocol is TCP, it is no fragment (More Fragments and Fragment Offset are 0), and Total Length
--- says how many bytes it has
-unfoldable pub in_version4 : Sought → List ℕ → Carried
-in_version4 sought bytes = version4_by sought bytes (at_front version4_header Big bytes)
-
--- a fragment of IPv6, by the protocol of what it is a part of, which begins its header (RFC 8200, 4.5)
-abbrev pub fragment : List ℕ → Carried
-fragment [] = Other
-fragment (protocol ∷ header) = if protocol == 6 then Fragment else Other
-
-abbrev pub version6_by : Sought → Option (Version6 × Place) → Carried
-version6_by sought None = lacking sought.whole
-version6_by sought (Some x) =
-    if x.0.next_header == 44 then fragment x.1.rest
-    else if not (x.0.next_header == 6) then Other
-    else in_tcp sought x.0.ends x.0.payload_length x.1.rest
-
--- in a packet of IPv6: Next Header is TCP, or a fragment of that
-unfoldable pub in_version6 : Sought → List ℕ → Carried
-in_version6 sought bytes = version6_by sought (version6_header (big_endian bytes))
-
--- in a packet of the internet, which begins with its version
+-- in a packet of IP, which begins with its version
 unfoldable pub in_internet : Sought → List ℕ → Carried
 in_internet sought [] = lacking sought.whole
 in_internet sought (first ∷ others) =
-    if first / 16 == 4 then in_version4 sought (first ∷ others)
-    else if first / 16 == 6 then in_version6 sought (first ∷ others)
+    if first / 16 == 4 then in_datagram sought (at_front (version4 (first ∷ others)) Big (first ∷ others))
+    else if first / 16 == 6 then in_datagram sought (at_front version6 Big (first ∷ others))
     else Other
 
 -- ---- a packet

@@ -1,121 +1,130 @@
 //! The headers of packets.
 
-ghost use Rattle.std.specs.Prelude.{option_map};
-ghost use Rattle.tpm_pcap.specs.Headers.{tcp_header, version4_header, version6_header};
-ghost use Rattle.tpm_pcap.specs.inner.Headers.{version4_as, version6_as};
-ghost use Rattle.tpm_pcap.specs.inner.Reading.{Takes};
+ghost use Rattle.std.specs.Prelude.{◌≡◌, option_map};
+ghost use Rattle.tpm_pcap.specs.declared.numbers.Order.TheVariants.{Big};
+ghost use Rattle.tpm_pcap.specs.Headers.{fragmented, tcp_header, version4, version6};
+ghost use Rattle.tpm_pcap.specs.inner.Headers.{datagram_as};
+ghost use Rattle.tpm_pcap.specs.Reading.{at_front};
 
+use crate::numbers::Order;
 use crate::reader::Reader;
+use crate::segment::behind;
 
-/// The addresses of a packet.
-#[derive(Drop, Clone, Copy)]
-pub(crate) struct Ends<'a> {
-    pub(crate) source: &'a [u8],
-    pub(crate) target: &'a [u8],
-}
+/// The number of a Fragment header (RFC 8200, 4.5).
+const FRAGMENT: u8 = 44;
 
-/// The header of a packet of IPv4 (RFC 791, 3.1), without its options.
+/// A packet of IP.
 #[derive(Drop, Clone, Copy)]
-pub(crate) struct Version4<'a> {
-    /// Internet Header Length, in words of four bytes.
-    pub(crate) header_length: u8,
-    /// How many bytes the packet has, with its header.
-    pub(crate) total_length: u16,
-    /// Flags, and Fragment Offset.
-    pub(crate) flags_and_offset: u16,
-    /// What it carries.
+pub(crate) struct Datagram<'a> {
+    /// The number of the protocol that it carries.
     pub(crate) protocol: u8,
-    /// Its addresses.
-    pub(crate) ends: Ends<'a>,
-}
-
-/// The header of a packet of IPv6 (RFC 8200, 3).
-#[derive(Drop, Clone, Copy)]
-pub(crate) struct Version6<'a> {
-    /// How many bytes the packet has behind this header.
-    pub(crate) payload_length: u16,
-    /// What stands behind this header.
-    pub(crate) next_header: u8,
-    /// Its addresses.
-    pub(crate) ends: Ends<'a>,
+    /// Whether it is a fragment.
+    pub(crate) is_fragment: bool,
+    pub(crate) source: &'a [u8],
+    pub(crate) destination: &'a [u8],
+    /// How many bytes it carries.
+    pub(crate) size: u16,
+    /// Those of them that were captured, and what is behind them.
+    pub(crate) payload: &'a [u8],
 }
 
 /// The header of a segment of TCP (RFC 9293, 3.1), without its options.
 #[derive(Clone, Copy, Debug, PartialEq, Eq)]
 pub(crate) struct TcpHeader {
-    /// The port that it is sent from.
     pub(crate) source_port: u16,
-    /// The port that it is sent to.
     pub(crate) destination_port: u16,
-    /// The number of its first byte.
     pub(crate) sequence_number: u32,
     /// How long the header is, in words of four bytes.
     pub(crate) data_offset: u8,
-    /// CWR, ECE, URG, ACK, PSH, RST, SYN and FIN.
     pub(crate) control_bits: u8,
 }
 
-/// The header of IPv4 here, if there is all of it.
-#[tactic(auto, unfolding(crate::specs::Headers::version4_header))]
-pub(crate) fn version4_header<'a>(packet: &mut Reader<'a>) -> Option<Version4<'a>>
-    ensures { Takes version4_header packet.old packet.new (option_map version4_as result) }
+/// A packet of IPv4 (RFC 791, 3.1), if there is all of its header.
+#[tactic(auto, unfolding(crate::specs::Headers::version4))]
+pub(crate) fn version4<'a>(packet: &'a [u8]) -> Option<Datagram<'a>>
+    ensures { option_map datagram_as result ≡ at_front (version4 packet.now) Big packet.now }
 {
-    let version_and_length = packet.u8()?;
-    let _type_of_service = packet.u8()?;
-    let total_length = packet.u16()?;
-    let _identification = packet.u16()?;
-    let flags_and_offset = packet.u16()?;
-    let _time_to_live = packet.u8()?;
-    let protocol = packet.u8()?;
-    let _checksum = packet.u16()?;
-    let source = packet.bytes(4)?;
-    let target = packet.bytes(4)?;
-    Some(Version4 {
-        header_length: version_and_length % 16,
-        total_length,
-        flags_and_offset,
+    let mut header = Reader::new(Order::Big, packet);
+    let version_and_length = header.u8()?;
+    let _type_of_service = header.u8()?;
+    let total_length = header.u16()?;
+    let _identification = header.u16()?;
+    let flags_and_offset = header.u16()?;
+    let _time_to_live = header.u8()?;
+    let protocol = header.u8()?;
+    let _header_checksum = header.u16()?;
+    let source = header.bytes(4)?;
+    let destination = header.bytes(4)?;
+    let length = version_and_length as u16 % 16 * 4;
+    Some(Datagram {
         protocol,
-        ends: Ends { source, target },
+        is_fragment: flags_and_offset % 16384 != 0,
+        source,
+        destination,
+        size: total_length.saturating_sub(length),
+        payload: behind(packet, length as usize),
     })
 }
 
-/// The header of IPv6 here, if there is all of it.
-#[tactic(auto, unfolding(crate::specs::Headers::version6_header))]
-pub(crate) fn version6_header<'a>(packet: &mut Reader<'a>) -> Option<Version6<'a>>
-    ensures { Takes version6_header packet.old packet.new (option_map version6_as result) }
+// The protocol of what a packet of IPv6 is a fragment of, by its Fragment header.
+fn fragmented(header: &[u8]) -> u8
+    ensures { result ≡ fragmented header.now }
 {
-    let _version_and_flow = packet.u32()?;
-    let payload_length = packet.u16()?;
-    let next_header = packet.u8()?;
-    let _hop_limit = packet.u8()?;
-    let source = packet.bytes(16)?;
-    let target = packet.bytes(16)?;
-    Some(Version6 {
-        payload_length,
-        next_header,
-        ends: Ends { source, target },
+    match header {
+        [protocol, ..] => *protocol,
+        [] => 0,
+    }
+}
+
+/// A packet of IPv6 (RFC 8200, 3), if there is all of its header.
+#[tactic(auto, unfolding(crate::specs::Headers::version6))]
+pub(crate) fn version6<'a>(packet: &'a [u8]) -> Option<Datagram<'a>>
+    ensures { option_map datagram_as result ≡ at_front version6 Big packet.now }
+{
+    let mut header = Reader::new(Order::Big, packet);
+    let _version_and_flow = header.u32()?;
+    let size = header.u16()?;
+    let next_header = header.u8()?;
+    let _hop_limit = header.u8()?;
+    let source = header.bytes(16)?;
+    let destination = header.bytes(16)?;
+    let payload = header.rest();
+    let is_fragment = next_header == FRAGMENT;
+    let protocol = if is_fragment {
+        fragmented(payload)
+    } else {
+        next_header
+    };
+    Some(Datagram {
+        protocol,
+        is_fragment,
+        source,
+        destination,
+        size,
+        payload,
     })
 }
 
-/// The header of TCP here, if there is all of it.
+/// The header of TCP with which a segment begins, if there is all of it.
 #[tactic(auto, unfolding(crate::specs::Headers::tcp_header))]
-pub(crate) fn tcp_header(segment: &mut Reader<'_>) -> Option<TcpHeader>
-    ensures { Takes tcp_header segment.old segment.new result }
+pub(crate) fn tcp_header(segment: &[u8]) -> Option<TcpHeader>
+    ensures { result ≡ at_front tcp_header Big segment.now }
 {
-    let source_port = segment.u16()?;
-    let destination_port = segment.u16()?;
-    let sequence_number = segment.u32()?;
-    let _acknowledgment_number = segment.u32()?;
-    let offset_and_reserved = segment.u8()?;
-    let control_bits = segment.u8()?;
-    let _window = segment.u16()?;
-    let _checksum = segment.u16()?;
-    let _urgent_pointer = segment.u16()?;
+    let mut header = Reader::new(Order::Big, segment);
+    let source_port = header.u16()?;
+    let destination_port = header.u16()?;
+    let sequence_number = header.u32()?;
+    let _acknowledgment_number = header.u32()?;
+    let data_offset = header.u8()? / 16;
+    let control_bits = header.u8()?;
+    let _window = header.u16()?;
+    let _checksum = header.u16()?;
+    let _urgent_pointer = header.u16()?;
     Some(TcpHeader {
         source_port,
         destination_port,
         sequence_number,
-        data_offset: offset_and_reserved / 16,
+        data_offset,
         control_bits,
     })
 }

@@ -1,22 +1,18 @@
 //! Segments of TCP.
 
-ghost use Rattle.std.specs.Prelude.{◌≡◌, ◌<◌, take, drop};
-ghost use Rattle.tpm_pcap.specs.Segments.{fragment, carried_by, carried_in, in_internet, in_tcp};
-ghost use Rattle.tpm_pcap.specs.Segments.{in_version4, in_version6, is_on_port, lacking, opens};
-ghost use Rattle.tpm_pcap.specs.Segments.{segment_of};
-ghost use Rattle.tpm_pcap.specs.inner.Headers.{ends_as};
+ghost use Rattle.std.specs.Prelude.{◌≡◌, take, drop, option_map};
+ghost use Rattle.tpm_pcap.specs.Segments.{carried_by, carried_in, in_datagram, in_internet, in_tcp};
+ghost use Rattle.tpm_pcap.specs.Segments.{is_on_port, lacking, opens, segment_of};
+ghost use Rattle.tpm_pcap.specs.inner.Headers.{datagram_as};
 ghost use Rattle.tpm_pcap.specs.inner.Segments.{IsSmall, carried_as, segment_as};
 
-use crate::headers::{Ends, TcpHeader, tcp_header, version4_header, version6_header};
+use crate::headers::{Datagram, TcpHeader, tcp_header, version4, version6};
 use crate::link::{Link, link_header};
 use crate::numbers::Order;
 use crate::reader::Reader;
 
 /// The number of TCP among what packets carry (RFC 9293; IANA, "Protocol Numbers").
 const TCP: u8 = 6;
-
-/// The number of a fragment's header (RFC 8200, 4.5).
-const FRAGMENT: u8 = 44;
 
 /// How many bytes the header of TCP has without options (RFC 9293, 3.1).
 const LEAST_HEADER: usize = 20;
@@ -96,19 +92,18 @@ fn is_on_port(port: u16, tcp: &TcpHeader) -> bool
 // The segment on this port that carries so many bytes, of which these were captured.
 fn segment_of<'a>(
     port: u16,
-    ends: Ends<'a>,
+    ip: &Datagram<'a>,
     tcp: &TcpHeader,
     size: usize,
     payload: &'a [u8],
 ) -> Segment<'a>
-    ensures { segment_as result
-        ≡ segment_of port (ends_as ends.entry) tcp.now size payload.now }
+    ensures { segment_as result ≡ segment_of port (datagram_as ip.now) tcp.now size payload.now }
 {
     let to_tpm = tcp.destination_port == port;
     let (client, simulator, port) = if to_tpm {
-        (ends.source, ends.target, tcp.source_port)
+        (ip.source, ip.destination, tcp.source_port)
     } else {
-        (ends.target, ends.source, tcp.destination_port)
+        (ip.destination, ip.source, tcp.destination_port)
     };
     Segment {
         to_tpm,
@@ -144,81 +139,44 @@ pub fn behind(bytes: &[u8], count: usize) -> &[u8]
     }
 }
 
-// What is in so many bytes of TCP, of which these were captured.
+// What is in a packet of TCP.
 #[tactic(auto, unfolding(crate::specs::Segments::in_tcp))]
-fn in_tcp<'a>(sought: Sought, ends: Ends<'a>, size: usize, bytes: &'a [u8]) -> Carried<'a>
-    requires { size < 65536 }
-    ensures carried { carried_as result ≡ in_tcp sought (ends_as ends.entry) size bytes.now }
+fn in_tcp<'a>(sought: Sought, ip: &Datagram<'a>) -> Carried<'a>
+    ensures carried { carried_as result ≡ in_tcp sought (datagram_as ip.now) }
     ensures small { IsSmall (carried_as result) }
 {
-    let Some(tcp) = tcp_header(&mut Reader::new(Order::Big, bytes)) else {
+    let Some(tcp) = tcp_header(ip.payload) else {
         return lacking(sought.whole);
     };
     if !is_on_port(sought.port, &tcp) {
         return Carried::Other;
     }
     let head = tcp.data_offset as usize * 4;
-    if head < LEAST_HEADER || size < head {
+    if head < LEAST_HEADER || (ip.size as usize) < head {
         return Carried::Other;
     }
-    let carried = size - head;
-    let payload = front(behind(bytes, head), carried);
-    Carried::Segment(segment_of(sought.port, ends, &tcp, carried, payload))
+    let size = ip.size as usize - head;
+    let payload = front(behind(ip.payload, head), size);
+    Carried::Segment(segment_of(sought.port, ip, &tcp, size, payload))
 }
 
 // ---- IP
 
-// What is in a packet of IPv4.
-#[tactic(auto, unfolding(crate::specs::Segments::in_version4))]
-fn in_version4<'a>(sought: Sought, bytes: &'a [u8]) -> Carried<'a>
-    ensures carried { carried_as result ≡ in_version4 sought bytes.now }
+// What is in a packet, if there is all of its header.
+fn in_datagram<'a>(sought: Sought, datagram: Option<Datagram<'a>>) -> Carried<'a>
+    ensures carried { carried_as result
+        ≡ in_datagram sought (option_map datagram_as datagram.entry) }
     ensures small { IsSmall (carried_as result) }
 {
-    let Some(ip) = version4_header(&mut Reader::new(Order::Big, bytes)) else {
-        return lacking(sought.whole);
-    };
-    if ip.protocol != TCP {
-        return Carried::Other;
-    }
-    if ip.flags_and_offset % 16384 != 0 {
-        return Carried::Fragment;
-    }
-    let head = ip.header_length as usize * 4;
-    let size = (ip.total_length as usize).saturating_sub(head);
-    in_tcp(sought, ip.ends, size, behind(bytes, head))
-}
-
-// What a fragment of IPv6 is, by the protocol of what it is a part of.
-fn fragment<'a>(header: &[u8]) -> Carried<'a>
-    ensures carried { carried_as result ≡ fragment header.now }
-    ensures small { IsSmall (carried_as result) }
-{
-    match header {
-        [protocol, ..] if *protocol == TCP => Carried::Fragment,
-        _ => Carried::Other,
+    match datagram {
+        None => lacking(sought.whole),
+        Some(ip) if ip.protocol != TCP => Carried::Other,
+        Some(ip) if ip.is_fragment => Carried::Fragment,
+        Some(ip) => in_tcp(sought, &ip),
     }
 }
 
-// What is in a packet of IPv6.
-#[tactic(auto, unfolding(crate::specs::Segments::in_version6))]
-fn in_version6<'a>(sought: Sought, bytes: &'a [u8]) -> Carried<'a>
-    ensures carried { carried_as result ≡ in_version6 sought bytes.now }
-    ensures small { IsSmall (carried_as result) }
-{
-    let mut packet = Reader::new(Order::Big, bytes);
-    let Some(ip) = version6_header(&mut packet) else {
-        return lacking(sought.whole);
-    };
-    if ip.next_header == FRAGMENT {
-        return fragment(packet.rest());
-    }
-    if ip.next_header != TCP {
-        return Carried::Other;
-    }
-    in_tcp(sought, ip.ends, ip.payload_length as usize, packet.rest())
-}
-
-// What is in a packet of the internet.
+// What is in a packet of IP.
 #[tactic(auto, unfolding(crate::specs::Segments::in_internet))]
 fn in_internet<'a>(sought: Sought, bytes: &'a [u8]) -> Carried<'a>
     ensures carried { carried_as result ≡ in_internet sought bytes.now }
@@ -228,8 +186,8 @@ fn in_internet<'a>(sought: Sought, bytes: &'a [u8]) -> Carried<'a>
         return lacking(sought.whole);
     };
     match *first / 16 {
-        4 => in_version4(sought, bytes),
-        6 => in_version6(sought, bytes),
+        4 => in_datagram(sought, version4(bytes)),
+        6 => in_datagram(sought, version6(bytes)),
         _ => Carried::Other,
     }
 }
