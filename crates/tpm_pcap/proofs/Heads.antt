@@ -1,60 +1,47 @@
 -- What a file is, by its first bytes, whatever comes behind them.
-use Rattle.std.proofs.Common.{◌≡◌, ℕ, ◌≤◌, ◌%◌, false, List, ◌++◌, length, drop, Option, Some, None, inl, inr, refl, sym, ap, ◌∙◌}
-use Rattle.std.proofs.Common.{arith, length-append, nat_lt}
-use Rattle.std.proofs.lemmas.List.{append-nil, drop-append-le}
-use Rattle.tpm_pcap.specs.declared.file.Format.TheVariants.{Savefile, Pcapng}
+use Rattle.std.proofs.Common.{◌≡◌, ℕ, ◌≤◌, List, ◌++◌, length, take, drop, Option, Some, inl, inr, refl, sym, ap, ◌∙◌}
+use Rattle.std.proofs.Common.{arith, length-append}
+use Rattle.std.proofs.lemmas.List.{append-nil, drop-append-le, take-append-le}
 use Rattle.tpm_pcap.specs.declared.link.Link.{Link}
 use Rattle.tpm_pcap.specs.declared.numbers.Order.{Order}
-use Rattle.tpm_pcap.specs.Files.{Entries, Traffic, blocks_told, entries_of, link_number, on_link, reader_of, savefile_by, savefile_over, savefile_traffic}
-use Rattle.tpm_pcap.specs.Files.{traffic_by, traffic_in}
+use Rattle.tpm_pcap.specs.declared.savefile.Kind.{Kind}
+use Rattle.tpm_pcap.specs.Files.{savefile_by, savefile_on, savefile_over, savefile_traffic, traffic_by, traffic_in}
 use Rattle.tpm_pcap.specs.Heads.{IsHead}
 use Rattle.tpm_pcap.specs.Links.{link_of}
-use Rattle.tpm_pcap.specs.Sections.{new_section}
-use Rattle.tpm_pcap.specs.Pcapng as pcapng
-use Rattle.tpm_pcap.specs.Savefiles as savefile
-use Rattle.tpm_pcap.proofs.Fronts.{above, number4_behind, number4_in_behind}
+use Rattle.tpm_pcap.specs.Pcapng.{order_of}
+use Rattle.tpm_pcap.specs.Reading.{at_front}
+use Rattle.tpm_pcap.specs.Savefiles.{file_header, kind_in}
+use Rattle.tpm_pcap.proofs.Fronts.{above}
 
--- ---- pcapng
+front_stays : (head rest : List ℕ) → IsHead head rest → take 24 (head ++ rest) ≡ take 24 head
+front_stays head rest (inl many) = take-append-le 24 head rest many
+front_stays head rest (inr none) = rw (none, append-nil head) refl
 
-order_behind : (head rest : List ℕ) → IsHead head rest → pcapng.order_of (head ++ rest) ≡ pcapng.order_of head
-order_behind head rest (inl many) =
-    rw (number4_behind head rest 0 (omega (arith, many)), number4_behind head rest 8 (omega (arith, many))) refl
-order_behind head rest (inr none) = rw (none, append-nil head) refl
-
-by_order : (port : ℕ) (head rest : List ℕ) (o : Option Order) → IsHead head rest → pcapng.order_of head ≡ o
+pub by_order : (port : ℕ) (head rest : List ℕ) (o : Option Order) → IsHead head rest → order_of (take 24 head) ≡ o
     → traffic_in port (head ++ rest) ≡ traffic_by port o (head ++ rest)
-by_order port head rest o h is = ap (λ (p : Option Order). traffic_by port p (head ++ rest)) (order_behind head rest h ∙ is)
+by_order port head rest o h is =
+    ap (λ (p : Option Order). traffic_by port p (head ++ rest)) (ap order_of (front_stays head rest h) ∙ is)
 
-pub no_pcapng : (port : ℕ) (head rest : List ℕ) → IsHead head rest → pcapng.order_of head ≡ None
-    → traffic_in port (head ++ rest) ≡ savefile_traffic port (head ++ rest)
-no_pcapng port head rest h is = by_order port head rest None h is
+-- a file of libpcap that has all of its header
+pub by_header : (port : ℕ) (head rest : List ℕ) (o : Option Kind) → 24 ≤ length head → kind_in (take 24 head) ≡ o
+    → savefile_by port o (take 24 head) (drop 24 head ++ rest) ≡ savefile_traffic port (head ++ rest)
+by_header port head rest o many is = rw (
+  above (length (head ++ rest)) 24 (omega (arith, many, length-append head rest)),
+  take-append-le 24 head rest many,
+  drop-append-le 24 head rest many,
+  is,
+) refl
 
-pub of_pcapng : (port : ℕ) (head rest : List ℕ) (order : Order) → IsHead head rest → pcapng.order_of head ≡ Some order
-    → Entries (blocks_told Pcapng (reader_of port (new_section order)) (head ++ rest)) ≡ traffic_in port (head ++ rest)
-of_pcapng port head rest order h is = sym (by_order port head rest (Some order) h is)
+-- the same, of this kind, whose header says this of its link
+pub by_link : (port : ℕ) (head rest : List ℕ) (kind : Kind) (o : Option ℕ) → 24 ≤ length head → kind_in (take 24 head) ≡ Some kind
+    → at_front file_header kind.order (take 24 head) ≡ o → savefile_over port kind o (drop 24 head ++ rest) ≡ savefile_traffic port (head ++ rest)
+by_link port head rest kind o many is header =
+    ap (λ (n : Option ℕ). savefile_over port kind n (drop 24 head ++ rest)) (sym header) ∙ by_header port head rest (Some kind) many is
 
--- ---- libpcap
-
-module _ (port : ℕ) (head rest : List ℕ) (many : 24 ≤ length head) where
-  long : nat_lt (length (head ++ rest)) 24 ≡ false
-  long = above (length (head ++ rest)) 24 (omega (arith, many, length-append head rest))
-
-  by_magic : (o : Option Order) → savefile.order_of head ≡ o → savefile_traffic port (head ++ rest) ≡ savefile_by port o (head ++ rest)
-  by_magic o is =
-      let magic : savefile.order_of (head ++ rest) ≡ savefile.order_of head = rw (number4_behind head rest 0 (omega (arith, many))) refl in
-      rw long (ap (λ (p : Option Order). savefile_by port p (head ++ rest)) (magic ∙ is))
-
-  units : savefile.per_second (head ++ rest) ≡ savefile.per_second head
-  units = rw (number4_behind head rest 0 (omega (arith, many))) refl
-
-  pub of_savefile : (order : Order) (link : Link) → savefile.order_of head ≡ Some order → link_of (link_number order head) ≡ Some link
-      → Entries (blocks_told Savefile (reader_of port (on_link order link (savefile.per_second head))) (drop 24 head ++ rest))
-      ≡ savefile_traffic port (head ++ rest)
-  of_savefile order link is known =
-      let number : link_number order (head ++ rest) ≡ link_number order head =
-      ap (λ (n : ℕ). n % 65536) (number4_in_behind order head rest 20 (omega (arith, many))) in
-      let told : ℕ → List ℕ → Traffic = λ (s : ℕ) (blocks : List ℕ). Entries (entries_of port Savefile (on_link order link s) blocks) in
-      sym (by_magic (Some order) is
-      ∙ ap (λ (o : Option Link). savefile_over port order o (head ++ rest)) (ap link_of number ∙ known)
-      ∙ ap (λ (s : ℕ). told s (drop 24 (head ++ rest))) units
-      ∙ ap (λ (blocks : List ℕ). told (savefile.per_second head) blocks) (drop-append-le 24 head rest many))
+-- the same, on this kind of link
+pub by_known : (port : ℕ) (head rest : List ℕ) (kind : Kind) (link_type : ℕ) (l : Option Link) → 24 ≤ length head → kind_in (take 24 head) ≡ Some kind
+    → at_front file_header kind.order (take 24 head) ≡ Some link_type → link_of link_type ≡ l
+    → savefile_on port kind link_type l (drop 24 head ++ rest) ≡ savefile_traffic port (head ++ rest)
+by_known port head rest kind link_type l many is header known =
+    ap (λ (m : Option Link). savefile_on port kind link_type m (drop 24 head ++ rest)) (sym known)
+    ∙ by_link port head rest kind (Some link_type) many is header

@@ -1,23 +1,22 @@
 -- What a file tells: of libpcap's format (pcap-savefile(5)), or of pcapng (IETF draft-ietf-opsawg-pcapng).
-use Rattle.std.specs.Prelude.{◌≡◌, ◌<◌, ◌≤◌, ℕ, zero, suc, ◌+◌, ◌*◌, ◌%◌, ◌==◌, nat_lt, Bool, true, false}
-use Rattle.std.specs.Prelude.{List, [], ◌∷◌, ◌++◌, length, drop, Option, Some, None, Ok, Err, if◌then◌else◌}
+use Rattle.std.specs.Prelude.{◌≡◌, ◌<◌, ◌≤◌, ℕ, zero, suc, ◌+◌, ◌*◌, ◌==◌, nat_lt, Bool, true, false}
+use Rattle.std.specs.Prelude.{List, [], ◌∷◌, ◌++◌, length, take, drop, Option, Some, None, Ok, Err, if◌then◌else◌}
 use Rattle.tpm_pcap.specs.declared.entry.Stamp.{Stamp}
 use Rattle.tpm_pcap.specs.declared.file.Format.TheVariants.{Savefile, Pcapng}
 use Rattle.tpm_pcap.specs.declared.file.Format.{Format}
 use Rattle.tpm_pcap.specs.declared.link.Link.{Link}
 use Rattle.tpm_pcap.specs.declared.numbers.Order.{Order}
+use Rattle.tpm_pcap.specs.declared.savefile.Kind.{Kind}
 use Rattle.tpm_pcap.specs.Blocks.{Block, Describes, Captured, Simple, Other, Framed, Packet, Read}
 use Rattle.tpm_pcap.specs.Entries.{Entry, Untold}
 use Rattle.tpm_pcap.specs.Links.{link_of}
-use Rattle.tpm_pcap.specs.Numbers.{number4_in}
-use Rattle.tpm_pcap.specs.Pcapng.{block_in}
-use Rattle.tpm_pcap.specs.Savefiles.{record_in}
+use Rattle.tpm_pcap.specs.Pcapng.{block_in, order_of}
+use Rattle.tpm_pcap.specs.Reading.{at_front}
+use Rattle.tpm_pcap.specs.Savefiles.{file_header, kind_in, record_in}
 use Rattle.tpm_pcap.specs.Sections.{Section, new_section, with_interface, packet_time, simple_packet}
 use Rattle.tpm_pcap.specs.Sections.{carried_of}
 use Rattle.tpm_pcap.specs.Talks.{Talk, new_talk, after_carried, carried_told, unfinished}
 use Rattle.tpm_pcap.specs.Blocks as blocks
-use Rattle.tpm_pcap.specs.Pcapng as pcapng
-use Rattle.tpm_pcap.specs.Savefiles as savefile
 
 -- ---- how far a file has been read
 
@@ -94,25 +93,27 @@ pub data Traffic : Type 0 where
   Entries : List Entry → Traffic
 
 -- libpcap's: behind its header, on the one interface of its kind of link
-abbrev pub on_link : Order → Link → (per_second : ℕ) → Section
-on_link order link per_second =
-    with_interface (new_section order) (record { link = Some link; limit = 0; per_second = per_second })
+abbrev pub on_link : Kind → Link → Section
+on_link kind link =
+    with_interface (new_section kind.order) (record { link = Some link; limit = 0; per_second = kind.per_second })
 
-abbrev pub link_number : Order → List ℕ → ℕ
-link_number order bytes = number4_in order bytes 20 % 65536
+abbrev pub savefile_on : (port : ℕ) → Kind → (link_type : ℕ) → Option Link → List ℕ → Traffic
+savefile_on port kind link_type None packets = OtherLink link_type
+savefile_on port kind link_type (Some link) packets = Entries (entries_of port Savefile (on_link kind link) packets)
 
-abbrev pub savefile_over : (port : ℕ) → Order → Option Link → List ℕ → Traffic
-savefile_over port order None bytes = OtherLink (link_number order bytes)
-savefile_over port order (Some link) bytes =
-    Entries (entries_of port Savefile (on_link order link (savefile.per_second bytes)) (drop 24 bytes))
+abbrev pub savefile_over : (port : ℕ) → Kind → Option ℕ → List ℕ → Traffic
+savefile_over port kind None packets = NoCapture
+savefile_over port kind (Some link_type) packets = savefile_on port kind link_type (link_of link_type) packets
 
-abbrev pub savefile_by : (port : ℕ) → Option Order → List ℕ → Traffic
-savefile_by port None bytes = NoCapture
-savefile_by port (Some order) bytes = savefile_over port order (link_of (link_number order bytes)) bytes
+abbrev pub savefile_by : (port : ℕ) → Option Kind → (header packets : List ℕ) → Traffic
+savefile_by port None header packets = NoCapture
+savefile_by port (Some kind) header packets =
+    savefile_over port kind (at_front file_header kind.order header) packets
 
 abbrev pub savefile_traffic : (port : ℕ) → List ℕ → Traffic
 savefile_traffic port bytes =
-    if nat_lt (length bytes) 24 then NoCapture else savefile_by port (savefile.order_of bytes) bytes
+    if nat_lt (length bytes) 24 then NoCapture
+    else savefile_by port (kind_in (take 24 bytes)) (take 24 bytes) (drop 24 bytes)
 
 -- pcapng's, whose first block begins a section
 abbrev pub traffic_by : (port : ℕ) → Option Order → List ℕ → Traffic
@@ -121,7 +122,7 @@ traffic_by port (Some order) bytes = Entries (entries_of port Pcapng (new_sectio
 
 -- on the port of a simulator
 abbrev pub traffic_in : (port : ℕ) → List ℕ → Traffic
-traffic_in port bytes = traffic_by port (pcapng.order_of bytes) bytes
+traffic_in port bytes = traffic_by port (order_of (take 24 bytes)) bytes
 
 -- ---- a file that comes in pieces
 

@@ -16,13 +16,6 @@ number4 bytes at = number2 bytes at * 65536 + number2 bytes (at + 2)
 abbrev pub low2 : List ℕ → ℕ → ℕ
 low2 bytes at = slice_index bytes at + slice_index bytes (at + 1) * 256
 
-abbrev pub low4 : List ℕ → ℕ → ℕ
-low4 bytes at = low2 bytes at + low2 bytes (at + 2) * 65536
-
 abbrev pub number2_in : Order → List ℕ → ℕ → ℕ
 number2_in Big bytes at = number2 bytes at
 number2_in Little bytes at = low2 bytes at
-
-abbrev pub number4_in : Order → List ℕ → ℕ → ℕ
-number4_in Big bytes at = number4 bytes at
-number4_in Little bytes at = low4 bytes at

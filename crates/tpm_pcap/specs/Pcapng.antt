@@ -1,18 +1,19 @@
 -- The blocks of a pcapng file (IETF draft-ietf-opsawg-pcapng, "PCAP Now Generic (pcapng) Capture File Format").
-use Rattle.std.specs.Prelude.{ℕ, ◌-◌, ◌%◌, ◌==◌, ◌||◌, ◌&&◌, nat_lt, not, Bool, List, length, take, drop, Option, Some}
-use Rattle.std.specs.Prelude.{None, Result, Ok, Err, if◌then◌else◌}
-use Rattle.tpm_pcap.specs.declared.block.Interface.{Interface}
+use Rattle.std.specs.Prelude.{ℕ, ◌-◌, ◌%◌, ◌==◌, ◌&&◌, nat_lt, not, Bool, List, Option, Some, None, Ok, Err}
+use Rattle.std.specs.Prelude.{if◌then◌else◌}
+use Rattle.std.specs.Int.{w16, w32}
 use Rattle.tpm_pcap.specs.declared.block.Ticks.TheVariants.{Units}
 use Rattle.tpm_pcap.specs.declared.entry.Reason.TheVariants.{CutShort, Malformed}
-use Rattle.tpm_pcap.specs.declared.entry.Reason.{Reason}
 use Rattle.tpm_pcap.specs.declared.numbers.Order.TheVariants.{Big, Little}
 use Rattle.tpm_pcap.specs.declared.numbers.Order.{Order}
+use Rattle.tpm_pcap.specs.declared.pcapng.Head.{Head}
+use Rattle.tpm_pcap.specs.declared.pcapng.Start.{Start}
 use Rattle.tpm_pcap.specs.Blocks.{Block, Section, Describes, Captured, Simple, Other, Read}
 use Rattle.tpm_pcap.specs.Links.{link_of}
-use Rattle.tpm_pcap.specs.Numbers.{number2_in, number4, number4_in}
 use Rattle.tpm_pcap.specs.Options.{per_second_in}
+use Rattle.tpm_pcap.specs.Reading.{Place, Reads, at_front, done, field, first_of, number, raw}
 
--- ---- Section Header Block: its type, which is the same in either order, and Byte-Order Magic
+-- ---- how a section begins: its first block's type, which is the same in either order, and Byte-Order Magic
 
 abbrev pub order_of_magic : ℕ → Option Order
 order_of_magic magic =
@@ -23,92 +24,127 @@ order_of_magic magic =
 abbrev pub header_kind : ℕ
 header_kind = 0x0a0d0d0a
 
+unfoldable pub section_start : Reads Start
+section_start =
+    field (number w32) (λ kind.
+    field (number w32) (λ total_length.
+    field (number w32) (λ magic.
+    done (record { kind = kind; magic = magic }))))
+
+abbrev pub order_by : Option Start → Option Order
+order_by None = None
+order_by (Some s) = if s.kind == header_kind then order_of_magic s.magic else None
+
 -- the order of the numbers of a section that begins with these bytes, if they begin one
 abbrev pub order_of : List ℕ → Option Order
-order_of bytes = if number4 bytes 0 == header_kind then order_of_magic (number4 bytes 8) else None
+order_of bytes = order_by (at_front section_start Big bytes)
 
--- A section of major version 1 begins.
-abbrev pub header_in : Order → (block : List ℕ) → Option Block
-header_in order block =
-    if nat_lt (length block) 28 || not (number2_in order block 12 == 1) then None
-    else Some (Section order)
+-- ---- what the blocks have between their two lengths
 
--- ---- Interface Description Block (type 1): LinkType, 2 bytes that say nothing, SnapLen, and options
+-- Section Header Block: a section of major version 1
+unfoldable pub section_header : Reads ℕ
+section_header =
+    field (number w32) (λ magic.
+    field (number w16) (λ major_version.
+    field (number w16) (λ minor_version.
+    field (raw 8) (λ section_length.
+    done major_version))))
 
-abbrev pub interface_of : Order → (block : List ℕ) → Interface
-interface_of order block = record {
-  link = link_of (number2_in order block 8);
-  limit = number4_in order block 12;
-  per_second = per_second_in order (take (length block - 20) (drop 16 block));
-}
+abbrev pub section_by : Order → Option ℕ → Option Block
+section_by order None = None
+section_by order (Some major_version) = if major_version == 1 then Some (Section order) else None
 
-abbrev pub interface_in : Order → (block : List ℕ) → Option Block
-interface_in order block =
-    if nat_lt (length block) 20 then None
-    else Some (Describes (interface_of order block))
+-- Interface Description Block (type 1), and behind it options
+unfoldable pub interface_description : Order → Reads Block
+interface_description order =
+    field (number w16) (λ link_type.
+    field (number w16) (λ reserved.
+    field (number w32) (λ snap_length options.
+    Some (
+      Describes (record {
+        link = link_of link_type;
+        limit = snap_length;
+        per_second = per_second_in order options.rest;
+      }),
+      options,
+    ))))
 
--- ---- Simple Packet Block (type 3): Original Packet Length, and Packet Data
+-- Simple Packet Block (type 3), and behind it Packet Data
+unfoldable pub simple_packet : Reads Block
+simple_packet = field (number w32) (λ original_length behind. Some (Simple original_length behind.rest, behind))
 
-abbrev pub simple_in : Order → (block : List ℕ) → Option Block
-simple_in order block =
-    if nat_lt (length block) 16 then None
-    else Some (Simple (number4_in order block 8) (take (length block - 16) (drop 12 block)))
+-- Enhanced Packet Block (type 6)
+unfoldable pub enhanced_packet : Reads Block
+enhanced_packet =
+    field (number w32) (λ interface.
+    field (number w32) (λ upper_timestamp.
+    field (number w32) (λ lower_timestamp.
+    field (number w32) (λ captured_length.
+    field (number w32) (λ original_length.
+    field (raw captured_length) (λ bytes.
+    done (Captured (record {
+      interface = interface;
+      ticks = Units upper_timestamp lower_timestamp;
+      size = original_length;
+      bytes = bytes;
+    }))))))))
 
--- ---- Enhanced Packet Block (type 6): Interface ID, both halves of the time, Captured Packet Length, Original Packet
--- ---- Length, and Packet Data
-
-abbrev pub enhanced_in : Order → (block : List ℕ) → Option Block
-enhanced_in order block =
-    if nat_lt (length block) 32 || nat_lt (length block - 32) (number4_in order block 20) then None
-    else Some (Captured (record {
-      interface = number4_in order block 8;
-      ticks = Units (number4_in order block 12) (number4_in order block 16);
-      size = number4_in order block 24;
-      bytes = take (number4_in order block 20) (drop 28 block);
-    }))
-
--- ---- a block (General Block Structure): its type, its length, and at its end its length again
-
--- what a block tells, from its type to its end, if it is well formed
-abbrev pub told_in : Order → (block : List ℕ) → Option Block
-told_in order block =
-    if number4_in order block 0 == header_kind then header_in order block
-    else if number4_in order block 0 == 1 then interface_in order block
-    else if number4_in order block 0 == 3 then simple_in order block
-    else if number4_in order block 0 == 6 then enhanced_in order block
+-- what a block of this type tells, if it is well formed
+abbrev pub told_in : Order → (kind : ℕ) → (body : List ℕ) → Option Block
+told_in order kind body =
+    if kind == header_kind then section_by order (at_front section_header order body)
+    else if kind == 1 then at_front (interface_description order) order body
+    else if kind == 3 then at_front simple_packet order body
+    else if kind == 6 then at_front enhanced_packet order body
     else Some Other
+
+-- ---- a block (General Block Structure): its type, its length, its body, and its length again
+
+unfoldable pub block_head : Reads Head
+block_head =
+    field (number w32) (λ kind.
+    field (number w32) (λ total_length.
+    done (record { kind = kind; total_length = total_length })))
+
+unfoldable pub block_rest : (size : ℕ) → Reads (List ℕ × ℕ)
+block_rest size =
+    field (raw size) (λ body.
+    field (number w32) (λ total_length.
+    done (body, total_length)))
 
 -- A length is a multiple of four, of 12 at least.
 abbrev pub is_length : ℕ → Bool
 is_length size = not (nat_lt size 12) && size % 4 == 0
 
--- the length of the block with which the bytes begin
-abbrev pub length_in : Order → List ℕ → Result ℕ Reason
-length_in order bytes =
-    if not (is_length (number4_in order bytes 4)) then Err Malformed
-    else if nat_lt (length bytes) (number4_in order bytes 4) then Err CutShort
-    else if number4_in order (drop (number4_in order bytes 4 - 4) bytes) 0 == number4_in order bytes 4
-    then Ok (number4_in order bytes 4)
-    else Err Malformed
-
 abbrev pub framed : (size : ℕ) → Option Block → Read
 framed size None = Err Malformed
 framed size (Some block) = Ok (record { block = block; size = size })
 
-abbrev pub block_sized : Order → Result ℕ Reason → List ℕ → Read
-block_sized order (Err reason) bytes = Err reason
-block_sized order (Ok size) bytes = framed size (told_in order (take size bytes))
+abbrev pub block_with : Order → Head → Option (List ℕ × ℕ) → Read
+block_with order head None = Err CutShort
+block_with order head (Some x) =
+    if x.1 == head.total_length then framed head.total_length (told_in order head.kind x.0)
+    else Err Malformed
 
-abbrev pub block_by : Option Order → List ℕ → Read
-block_by None bytes = Err Malformed
-block_by (Some order) bytes = block_sized order (length_in order bytes) bytes
+abbrev pub block_by : Order → Option (Head × Place) → Read
+block_by order None = Err CutShort
+block_by order (Some x) =
+    if is_length x.0.total_length
+    then block_with order x.0 (first_of (block_rest (x.0.total_length - 12) x.1))
+    else Err Malformed
+
+abbrev pub block_of : Option Order → List ℕ → Read
+block_of None bytes = Err Malformed
+block_of (Some order) bytes = block_by order (block_head (record { order = order; rest = bytes }))
 
 -- The numbers of a Section Header Block are in its own order, those of others in the section's.
-abbrev pub order_at : (section : Order) → List ℕ → Option Order
-order_at section bytes = if number4 bytes 0 == header_kind then order_of bytes else Some section
+abbrev pub order_at : (section : Order) → Start → Option Order
+order_at section s = if s.kind == header_kind then order_of_magic s.magic else Some section
+
+abbrev pub block_from : (section : Order) → List ℕ → Option Start → Read
+block_from section bytes None = Err CutShort
+block_from section bytes (Some s) = block_of (order_at section s) bytes
 
 -- the block with which the bytes begin, in a section whose numbers are in this order
 unfoldable pub block_in : (section : Order) → List ℕ → Read
-block_in section bytes =
-    if nat_lt (length bytes) 12 then Err CutShort
-    else block_by (order_at section bytes) bytes
+block_in section bytes = block_from section bytes (at_front section_start Big bytes)

@@ -1,43 +1,58 @@
 -- The files of libpcap (pcap-savefile(5)): a header of 24 bytes, and packets with headers of 16.
-use Rattle.std.specs.Prelude.{ℕ, ◌+◌, ◌==◌, ◌||◌, nat_lt, List, length, take, drop, Option, Some, None, Ok, Err}
+use Rattle.std.specs.Prelude.{ℕ, ◌+◌, ◌%◌, ◌==◌, List, length, Option, Some, None, Ok, Err}
 use Rattle.std.specs.Prelude.{if◌then◌else◌}
+use Rattle.std.specs.Int.{w16, w32}
 use Rattle.tpm_pcap.specs.declared.block.Ticks.TheVariants.{Seconds}
 use Rattle.tpm_pcap.specs.declared.entry.Reason.TheVariants.{CutShort}
 use Rattle.tpm_pcap.specs.declared.numbers.Order.TheVariants.{Big, Little}
 use Rattle.tpm_pcap.specs.declared.numbers.Order.{Order}
-use Rattle.tpm_pcap.specs.Blocks.{Captured, Framed, Read}
-use Rattle.tpm_pcap.specs.Numbers.{number4, number4_in}
+use Rattle.tpm_pcap.specs.declared.savefile.Kind.{Kind}
+use Rattle.tpm_pcap.specs.Blocks.{Captured, Packet, Read}
+use Rattle.tpm_pcap.specs.Reading.{Reads, at_front, done, field, number, raw}
 
--- The magic number: of times in microseconds, or in nanoseconds.
-abbrev pub order_of_magic : ℕ → Option Order
-order_of_magic magic =
-    if magic == 0xa1b2c3d4 || magic == 0xa1b23c4d then Some Big
-    else if magic == 0xd4c3b2a1 || magic == 0x4d3cb2a1 then Some Little
+-- the order of a file's numbers, and how many units of its times a second has, by Magic Number
+abbrev pub kind_of : (magic : ℕ) → Option Kind
+kind_of magic =
+    if magic == 0xa1b2c3d4 then Some (record { order = Big; per_second = 1000000 })
+    else if magic == 0xa1b23c4d then Some (record { order = Big; per_second = 1000000000 })
+    else if magic == 0xd4c3b2a1 then Some (record { order = Little; per_second = 1000000 })
+    else if magic == 0x4d3cb2a1 then Some (record { order = Little; per_second = 1000000000 })
     else None
 
-abbrev pub order_of : List ℕ → Option Order
-order_of bytes = order_of_magic (number4 bytes 0)
+-- Magic Number, in the order that it tells
+abbrev pub kind_by : Option ℕ → Option Kind
+kind_by None = None
+kind_by (Some magic) = kind_of magic
 
--- how many units of its times a second has
-abbrev pub per_second : List ℕ → ℕ
-per_second bytes =
-    if number4 bytes 0 == 0xa1b23c4d || number4 bytes 0 == 0x4d3cb2a1 then 1000000000 else 1000000
+abbrev pub kind_in : List ℕ → Option Kind
+kind_in bytes = kind_by (at_front (number w32) Big bytes)
 
--- the seconds and the units of its time, how many bytes were captured, and how many there were
-abbrev pub record_of : Order → List ℕ → Framed
-record_of order bytes = record {
-  block = Captured (record {
-    interface = 0;
-    ticks = Seconds (number4_in order bytes 0) (number4_in order bytes 4);
-    size = number4_in order bytes 12;
-    bytes = take (number4_in order bytes 8) (drop 16 bytes);
-  });
-  size = number4_in order bytes 8 + 16;
-}
+-- a file's header: LinkType, whose upper half tells of its check sequences
+unfoldable pub file_header : Reads ℕ
+file_header =
+    field (number w32) (λ magic.
+    field (number w16) (λ major_version.
+    field (number w16) (λ minor_version.
+    field (number w32) (λ reserved1.
+    field (number w32) (λ reserved2.
+    field (number w32) (λ snap_length.
+    field (number w32) (λ link_type.
+    done (link_type % 65536))))))))
+
+-- a packet: the seconds and the units of its time, how many bytes were captured, how many there were, and these
+unfoldable pub packet_record : Reads Packet
+packet_record =
+    field (number w32) (λ seconds.
+    field (number w32) (λ units.
+    field (number w32) (λ captured_length.
+    field (number w32) (λ original_length.
+    field (raw captured_length) (λ bytes.
+    done (record { interface = 0; ticks = Seconds seconds units; size = original_length; bytes = bytes }))))))
+
+abbrev pub record_by : Option Packet → Read
+record_by None = Err CutShort
+record_by (Some p) = Ok (record { block = Captured p; size = length p.bytes + 16 })
 
 -- the packet with which the bytes begin, if all that was captured of it is there
 unfoldable pub record_in : Order → List ℕ → Read
-record_in order bytes =
-    if nat_lt (length bytes) 16 then Err CutShort
-    else if nat_lt (length bytes) (number4_in order bytes 8 + 16) then Err CutShort
-    else Ok (record_of order bytes)
+record_in order bytes = record_by (at_front packet_record order bytes)

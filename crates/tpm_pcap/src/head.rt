@@ -8,10 +8,10 @@ ghost use Rattle.tpm_pcap.specs.inner.Sections.{section_as};
 use crate::block::Interface;
 use crate::file::{Format, PacketFile};
 use crate::link::{Link, link_of};
-use crate::numbers::{Order, number4_in};
+use crate::pcapng::order_of;
+use crate::savefile::{Kind, file_header, kind_in};
 use crate::section::Section;
-use crate::segment::behind;
-use crate::{pcapng, savefile};
+use crate::segment::{behind, front};
 use std::alloc::{AllocError, Global};
 
 /// How many bytes say what a file is. In a file of libpcap so many precede the first packet.
@@ -29,14 +29,14 @@ pub enum FileHead {
 }
 
 // The section that a file of libpcap is.
-fn on_link(order: Order, link: Link, per_second: u64) -> Section
-    ensures { section_as result ≡ on_link order link per_second }
+fn on_link(kind: Kind, link: Link) -> Section
+    ensures { section_as result ≡ on_link kind link }
 {
-    let mut section = Section::new(order);
+    let mut section = Section::new(kind.order);
     section.describe(Interface {
         link: Some(link),
         limit: 0,
-        per_second,
+        per_second: kind.per_second,
     });
     section
 }
@@ -50,15 +50,19 @@ fn savefile_head(alloc: Global, head: &[u8], port: u16) -> Result<FileHead, Allo
     if head.len() < HEAD {
         return Ok(FileHead::NoCapture);
     }
-    let Some(order) = savefile::order_of(head) else {
+    let header = front(head, HEAD);
+    let Some(kind) = kind_in(header) else {
         return Ok(FileHead::NoCapture);
     };
-    let number = number4_in(order, head, 20) % 65536;
-    let Some(link) = link_of(number) else {
-        return Ok(FileHead::OtherLink(number));
+    let Some(link_type) = file_header(kind.order, header) else {
+        return Ok(FileHead::NoCapture);
     };
-    let section = on_link(order, link, savefile::per_second(head));
-    let file = PacketFile::new(alloc, Format::Savefile, port, section, behind(head, HEAD))?;
+    let Some(link) = link_of(link_type) else {
+        return Ok(FileHead::OtherLink(link_type));
+    };
+    let packets = behind(head, HEAD);
+    let section = on_link(kind, link);
+    let file = PacketFile::new(alloc, Format::Savefile, port, section, packets)?;
     Ok(FileHead::Packets(file))
 }
 
@@ -100,7 +104,7 @@ pub fn read_head(alloc: Global, head: &[u8], port: u16) -> Result<FileHead, Allo
         → head_as carried rest ≡ traffic_in port (head.now ++ rest)) }
     ensures few { IfOk result (BeginsFile (length head.now)) }
 {
-    match pcapng::order_of(head) {
+    match order_of(front(head, HEAD)) {
         Some(order) => {
             let section = Section::new(order);
             let file = PacketFile::new(alloc, Format::Pcapng, port, section, head)?;

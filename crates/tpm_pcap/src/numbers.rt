@@ -1,7 +1,7 @@
 //! Numbers in a packet and in a file.
 
 ghost use Rattle.std.specs.Prelude.{◌≡◌, ◌<◌, slice_index};
-ghost use Rattle.tpm_pcap.specs.Numbers.{low2, low4, number2, number2_in, number4, number4_in};
+ghost use Rattle.tpm_pcap.specs.Numbers.{low2, number2, number2_in, number4};
 
 /// The order of the bytes of a number.
 #[derive(Clone, Copy, Debug, PartialEq, Eq)]
@@ -47,13 +47,6 @@ fn low2(bytes: &[u8], at: usize) -> u32
     byte_at(bytes, at) as u32 + byte_at(bytes, at + 1) as u32 * 256
 }
 
-fn low4(bytes: &[u8], at: usize) -> u32
-    requires { at < 65534 }
-    ensures { result ≡ low4 bytes.now at }
-{
-    low2(bytes, at) + low2(bytes, at + 2) * 65536
-}
-
 /// Two bytes in this order.
 pub(crate) fn number2_in(order: Order, bytes: &[u8], at: usize) -> u32
     requires { at < 65534 }
@@ -62,16 +55,5 @@ pub(crate) fn number2_in(order: Order, bytes: &[u8], at: usize) -> u32
     match order {
         Order::Big => number2(bytes, at),
         Order::Little => low2(bytes, at),
-    }
-}
-
-/// Four bytes in this order.
-pub(crate) fn number4_in(order: Order, bytes: &[u8], at: usize) -> u32
-    requires { at < 65534 }
-    ensures { result ≡ number4_in order bytes.now at }
-{
-    match order {
-        Order::Big => number4(bytes, at),
-        Order::Little => low4(bytes, at),
     }
 }

@@ -1,6 +1,6 @@
 //! Headers, read from the front of bytes.
 
-ghost use Rattle.std.specs.Prelude.{◌≡◌, option_map};
+ghost use Rattle.std.specs.Prelude.{◌≡◌, ◌+◌, length, option_map, IfSome};
 ghost use Rattle.std.specs.Int.{w16, w32};
 ghost use Rattle.tpm_pcap.specs.Reading.{Place, byte, number, raw, value};
 ghost use Rattle.tpm_pcap.specs.inner.Reading.{Takes};
@@ -59,7 +59,9 @@ impl<'a> Reader<'a> {
     /// The next `n` bytes, if there are as many.
     #[tactic(auto, unfolding(crate::specs::Reading::raw))]
     pub fn bytes(&mut self, n: usize) -> Option<&'a [u8]>
-        ensures { Takes (raw n) self.old self.new (option_map (λ bytes. bytes.now) result) }
+        ensures reads { Takes (raw n) self.old self.new (option_map (λ bytes. bytes.now) result) }
+        ensures size { IfSome result (λ bytes. (length bytes.now ≡ n)
+            × (length self.new.rest + n ≡ length self.old.rest)) }
     {
         let (bytes, rest) = self.rest.split_at_checked(n)?;
         self.rest = rest;
@@ -68,7 +70,8 @@ impl<'a> Reader<'a> {
 
     #[tactic(auto, unfolding(crate::specs::Reading::raw))]
     fn array<const N: usize>(&mut self) -> Option<[u8; N]>
-        ensures { Takes (raw N) self.old self.new result }
+        ensures reads { Takes (raw N) self.old self.new result }
+        ensures size { IfSome result (λ _. length self.new.rest + N ≡ length self.old.rest) }
     {
         let (bytes, rest) = self.rest.split_first_chunk::<N>()?;
         self.rest = rest;
@@ -96,7 +99,8 @@ impl<'a> Reader<'a> {
     /// The next number of 4 bytes.
     #[tactic(auto, unfolding(crate::specs::Reading::number))]
     pub fn u32(&mut self) -> Option<u32>
-        ensures { Takes (number w32) self.old self.new result }
+        ensures reads { Takes (number w32) self.old self.new result }
+        ensures size { IfSome result (λ _. length self.new.rest + 4 ≡ length self.old.rest) }
     {
         let order = self.order;
         Some(order.u32(self.array()?))
