@@ -5,9 +5,10 @@ ghost use Rattle.std.specs.Prelude.{string_bytes};
 ghost use Rattle.std.specs.Io.KnownBytes.{Appends};
 ghost use Rattle.tpm_pcap.specs.Entries.{entry_as, entries_as};
 ghost use Rattle.tpm_pcap.specs.Files.{Entries, left_told};
-ghost use Rattle.tpm_output.specs.declared.fault.ToolFault.TheVariants.{InputTooLong};
+ghost use Rattle.tpm_output.specs.declared.fault.ToolFault.TheVariants.{InputTooLong, Read};
 ghost use Rattle.tpm_output.specs.Faults.{FailsByMemoryOrWrite};
 ghost use Rattle.tpm_output.specs.InputLines.{AddedTo, CountsRead};
+ghost use Rattle.tpm_wire.specs.Sources.{IsWhereItFailed};
 ghost use Rattle.tpm_show.specs.Packets.{awaited_past, most_packets, OfReadUpTo, reason_text, TellsPackets};
 ghost use Rattle.tpm_show.specs.Packets.{TellsTraffic};
 ghost use Rattle.tpm_show.specs.inner.PacketsTold.{TellsMany, TellsOne};
@@ -146,6 +147,7 @@ fn print_packets<R: Source, W: Write>(
     requires few { file.reader.packet + length file.held ≤ 25 }
     requires most { most ≤ most_packets }
     ensures failures { CountsRead (R.failed input.old) (R.failed input.new) result }
+    ensures stop { IsErrOf result Read → IsWhereItFailed (R.stopped input.new) }
     ensures ok { IfOk result (λ status. (text : List ℕ)
         × OfReadUpTo most (R.coming input.old) (R.coming input.new) (λ bytes.
         TellsTraffic how port (Entries (left_told file bytes)) status text)
@@ -212,6 +214,7 @@ pub fn show_packets<R: Source, W: Write>(
     how: Telling,
 ) -> Result<Status, ToolFault>
     ensures failures { CountsRead (R.failed input.old) (R.failed input.new) result }
+    ensures stop { IsErrOf result Read → IsWhereItFailed (R.stopped input.new) }
     ensures ok { IfOk result (λ status. (text : List ℕ)
         × OfReadUpTo most_packets (R.coming input.old) (R.coming input.new) (λ bytes.
         TellsPackets how port bytes status text)
