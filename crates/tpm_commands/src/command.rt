@@ -362,7 +362,7 @@ impl<'a> CommandBody<'a> {
     ///
     /// A handle that is missing, or that the command cannot have, is never met where both were read under one
     /// code; in its place stands one of its kind.
-    // (each is made where it stays)
+    // (by one assignment: its value has one room by the toolchain's own compiler, and each arm's would have its own)
     #[tactic(auto, unfolding(crate::specs::Commands::Pcr::pcr_event, crate::specs::Commands::Context::flush_context, crate::specs::Commands::Policy::policy_command_code, crate::specs::Commands::Policy::policy_or, crate::specs::Commands::Pcr::pcr_read, crate::specs::Commands::Pcr::pcr_extend,))]
     #[inline(never)]
     pub fn read(
@@ -381,65 +381,63 @@ impl<'a> CommandBody<'a> {
     {
         let first = first_handle(handles);
         let second = second_handle(handles);
-        match code {
-            CommandCode::NvUndefineSpace => *self = CommandBody::NvUndefineSpace {
+        *self = match code {
+            CommandCode::NvUndefineSpace => CommandBody::NvUndefineSpace {
                 index: index_in(second),
             },
-            CommandCode::NvDefineSpace => *self = CommandBody::NvDefineSpace(NvDefineSpace::take(
-                cursor,
-            )?),
-            CommandCode::NvIncrement => *self = CommandBody::NvIncrement {
+            CommandCode::NvDefineSpace => CommandBody::NvDefineSpace(NvDefineSpace::take(cursor)?),
+            CommandCode::NvIncrement => CommandBody::NvIncrement {
                 by: nv_auth_in(first),
                 index: index_in(second),
             },
-            CommandCode::PcrEvent => *self = CommandBody::PcrEvent {
+            CommandCode::PcrEvent => CommandBody::PcrEvent {
                 register: pcr_or_null_in(first),
                 event: take_event(cursor)?,
             },
-            CommandCode::PcrReset => *self = CommandBody::PcrReset {
+            CommandCode::PcrReset => CommandBody::PcrReset {
                 register: register_in(first),
             },
-            CommandCode::Startup => *self = CommandBody::Startup(take_startup(cursor)?),
-            CommandCode::NvRead => *self = CommandBody::NvRead {
+            CommandCode::Startup => CommandBody::Startup(take_startup(cursor)?),
+            CommandCode::NvRead => CommandBody::NvRead {
                 by: nv_auth_in(first),
                 index: index_in(second),
                 params: NvRead::take(cursor)?,
             },
-            CommandCode::FlushContext => *self = CommandBody::FlushContext(take_only(cursor)?),
-            CommandCode::NvReadPublic => *self = CommandBody::NvReadPublic {
+            CommandCode::FlushContext => CommandBody::FlushContext(take_only(cursor)?),
+            CommandCode::NvReadPublic => CommandBody::NvReadPublic {
                 index: index_in(first),
             },
-            CommandCode::PolicyAuthValue => *self = CommandBody::PolicyAuthValue {
+            CommandCode::PolicyAuthValue => CommandBody::PolicyAuthValue {
                 session: policy_in(first),
             },
-            CommandCode::PolicyCommandCode => *self = CommandBody::PolicyCommandCode {
+            CommandCode::PolicyCommandCode => CommandBody::PolicyCommandCode {
                 session: policy_in(first),
                 code: take_only(cursor)?,
             },
-            CommandCode::PolicyOr => *self = CommandBody::PolicyOr {
+            CommandCode::PolicyOr => CommandBody::PolicyOr {
                 session: policy_in(first),
                 digests: take_only(cursor)?,
             },
-            CommandCode::StartAuthSession => *self = CommandBody::StartAuthSession(StartAuth {
+            CommandCode::StartAuthSession => CommandBody::StartAuthSession(StartAuth {
                 bind: bind_in(second),
                 params: StartParams::take(cursor)?,
             }),
-            CommandCode::PcrRead => *self = CommandBody::PcrRead(take_only(cursor)?),
-            CommandCode::PolicyPcr => *self = CommandBody::PolicyPcr {
+            CommandCode::PcrRead => CommandBody::PcrRead(take_only(cursor)?),
+            CommandCode::PolicyPcr => CommandBody::PolicyPcr {
                 session: policy_in(first),
                 params: PolicyPcr::take(cursor)?,
             },
-            CommandCode::PolicyRestart => *self = CommandBody::PolicyRestart {
+            CommandCode::PolicyRestart => CommandBody::PolicyRestart {
                 session: policy_in(first),
             },
-            CommandCode::PcrExtend => *self = CommandBody::PcrExtend {
+            CommandCode::PcrExtend => CommandBody::PcrExtend {
                 register: pcr_or_null_in(first),
                 digests: take_only(cursor)?,
             },
-            CommandCode::PolicyGetDigest => *self = CommandBody::PolicyGetDigest {
+            CommandCode::PolicyGetDigest => CommandBody::PolicyGetDigest {
                 session: policy_in(first),
             },
-        }
+        };
         Ok(())
     }
 }
@@ -449,7 +447,7 @@ impl<'a> CommandBody<'a> {
 impl<'a> Params<'a> {
     // Makes them those of a command with this code that are read, or answers their first fault. Which are there after a
     // fault is not said.
-    // (each are made where they stay)
+    // (by one assignment, as above)
     #[tactic(auto, unfolding(crate::specs::Commands::Pcr::pcr_event, crate::specs::Commands::Context::flush_context, crate::specs::Commands::Policy::policy_command_code, crate::specs::Commands::Policy::policy_or, crate::specs::Commands::Pcr::pcr_read, crate::specs::Commands::Pcr::pcr_extend,))]
     #[inline(never)]
     pub(crate) fn read(&mut self, cursor: &mut Cursor<'a>, code: CommandCode) -> Result<(), Refusal>
@@ -459,30 +457,26 @@ impl<'a> Params<'a> {
             (cursor.old.here.rest ≡ spelling (parameters code) self.new ++ cursor.new.here.rest) }
         ensures code { OnOk result (params_code self.new ≡ code) }
     {
-        match code {
-            CommandCode::NvUndefineSpace => *self = Params::NvUndefineSpace,
-            CommandCode::NvDefineSpace => *self = Params::NvDefineSpace(NvDefineSpace::take(
-                cursor,
-            )?),
-            CommandCode::NvIncrement => *self = Params::NvIncrement,
-            CommandCode::PcrEvent => *self = Params::PcrEvent(take_event(cursor)?),
-            CommandCode::PcrReset => *self = Params::PcrReset,
-            CommandCode::Startup => *self = Params::Startup(take_startup(cursor)?),
-            CommandCode::NvRead => *self = Params::NvRead(NvRead::take(cursor)?),
-            CommandCode::FlushContext => *self = Params::FlushContext(take_only(cursor)?),
-            CommandCode::NvReadPublic => *self = Params::NvReadPublic,
-            CommandCode::PolicyAuthValue => *self = Params::PolicyAuthValue,
-            CommandCode::PolicyCommandCode => *self = Params::PolicyCommandCode(take_only(cursor)?),
-            CommandCode::PolicyOr => *self = Params::PolicyOr(take_only(cursor)?),
-            CommandCode::StartAuthSession => *self = Params::StartAuthSession(StartParams::take(
-                cursor,
-            )?),
-            CommandCode::PcrRead => *self = Params::PcrRead(take_only(cursor)?),
-            CommandCode::PolicyPcr => *self = Params::PolicyPcr(PolicyPcr::take(cursor)?),
-            CommandCode::PolicyRestart => *self = Params::PolicyRestart,
-            CommandCode::PcrExtend => *self = Params::PcrExtend(take_only(cursor)?),
-            CommandCode::PolicyGetDigest => *self = Params::PolicyGetDigest,
-        }
+        *self = match code {
+            CommandCode::NvUndefineSpace => Params::NvUndefineSpace,
+            CommandCode::NvDefineSpace => Params::NvDefineSpace(NvDefineSpace::take(cursor)?),
+            CommandCode::NvIncrement => Params::NvIncrement,
+            CommandCode::PcrEvent => Params::PcrEvent(take_event(cursor)?),
+            CommandCode::PcrReset => Params::PcrReset,
+            CommandCode::Startup => Params::Startup(take_startup(cursor)?),
+            CommandCode::NvRead => Params::NvRead(NvRead::take(cursor)?),
+            CommandCode::FlushContext => Params::FlushContext(take_only(cursor)?),
+            CommandCode::NvReadPublic => Params::NvReadPublic,
+            CommandCode::PolicyAuthValue => Params::PolicyAuthValue,
+            CommandCode::PolicyCommandCode => Params::PolicyCommandCode(take_only(cursor)?),
+            CommandCode::PolicyOr => Params::PolicyOr(take_only(cursor)?),
+            CommandCode::StartAuthSession => Params::StartAuthSession(StartParams::take(cursor)?),
+            CommandCode::PcrRead => Params::PcrRead(take_only(cursor)?),
+            CommandCode::PolicyPcr => Params::PolicyPcr(PolicyPcr::take(cursor)?),
+            CommandCode::PolicyRestart => Params::PolicyRestart,
+            CommandCode::PcrExtend => Params::PcrExtend(take_only(cursor)?),
+            CommandCode::PolicyGetDigest => Params::PolicyGetDigest,
+        };
         Ok(())
     }
 }
