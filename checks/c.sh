@@ -558,8 +558,7 @@ in_flash() {
     ' "$room/flash"
 }
 
-# on_stack: no call takes more than 6 KB of stack by LLVM, or 8 of a log. By the toolchain's compiler, which puts the
-# values of a match's arms side by side, none takes more than 12, but 13 to execute a command and 17 to build one.
+# on_stack: no call takes more than 6 KB of stack by LLVM, or 8 of a log, nor more than 12 by the toolchain's compiler.
 on_stack() {
     CC="$compiler" bench/stack crates/tpm_c/out/llvm/libtpm_c.a crates/tpm_c/out/rattle/libtpm_c.a >"$room/stack" ||
         return 1
@@ -567,8 +566,7 @@ on_stack() {
         $2 ~ /tpm_/ {
             gsub(/[ ,]/, "")
             rows++
-            most = $2 ~ /tpm_command_build/ ? 17 : $2 ~ /tpm_device_execute/ ? 13 : 12
-            if ($3 > 1024 * ($2 ~ /tpm_log_/ ? 8 : 6) || $4 > 1024 * most) { print; wrong = 1 }
+            if ($3 > 1024 * ($2 ~ /tpm_log_/ ? 8 : 6) || $4 > 1024 * 12) { print; wrong = 1 }
         }
         END { exit wrong || !rows }
     ' "$room/stack"

@@ -7,7 +7,7 @@ ghost use Rattle.tpm_wire.specs.Spelling.{spelling};
 ghost use Rattle.tpm_commands.specs.declared.command.CommandBody.{CommandBody as CommandBodyOf};
 ghost use Rattle.tpm_commands.specs.declared.command.Params.{Params};
 ghost use Rattle.tpm_commands.specs.Parameters.{parameters, params_code};
-ghost use Rattle.tpm_buffer.specs.Commands.{command as command_layout, code_for, params_of};
+ghost use Rattle.tpm_buffer.specs.Commands.{command as command_layout, params_of};
 ghost use Rattle.tpm_caller.specs.Plain.{body_in, parts_in, PartsFit};
 ghost use Rattle.tpm_caller.specs.inner.Placing.{AreParams};
 

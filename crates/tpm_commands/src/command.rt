@@ -539,29 +539,29 @@ pub fn read_reply_params(
         ++ cursor.new.here.rest) }
     ensures own { OnOk result (IsReplyTo code handle body.new) }
 {
-    match code {
-        CommandCode::NvUndefineSpace => *body = ReplyBody::NvUndefineSpace,
-        CommandCode::NvDefineSpace => *body = ReplyBody::NvDefineSpace,
-        CommandCode::NvIncrement => *body = ReplyBody::NvIncrement,
-        CommandCode::PcrEvent => *body = ReplyBody::PcrEvent(take_only(cursor)?),
-        CommandCode::PcrReset => *body = ReplyBody::PcrReset,
-        CommandCode::Startup => *body = ReplyBody::Startup,
-        CommandCode::NvRead => *body = ReplyBody::NvRead(take_only(cursor)?),
-        CommandCode::FlushContext => *body = ReplyBody::FlushContext,
-        CommandCode::NvReadPublic => nv::read_nv_read_public_reply(cursor, body)?,
-        CommandCode::PolicyAuthValue => *body = ReplyBody::PolicyAuthValue,
-        CommandCode::PolicyCommandCode => *body = ReplyBody::PolicyCommandCode,
-        CommandCode::PolicyOr => *body = ReplyBody::PolicyOr,
+    *body = match code {
+        CommandCode::NvUndefineSpace => ReplyBody::NvUndefineSpace,
+        CommandCode::NvDefineSpace => ReplyBody::NvDefineSpace,
+        CommandCode::NvIncrement => ReplyBody::NvIncrement,
+        CommandCode::PcrEvent => ReplyBody::PcrEvent(take_only(cursor)?),
+        CommandCode::PcrReset => ReplyBody::PcrReset,
+        CommandCode::Startup => ReplyBody::Startup,
+        CommandCode::NvRead => ReplyBody::NvRead(take_only(cursor)?),
+        CommandCode::FlushContext => ReplyBody::FlushContext,
+        CommandCode::NvReadPublic => return nv::read_nv_read_public_reply(cursor, body),
+        CommandCode::PolicyAuthValue => ReplyBody::PolicyAuthValue,
+        CommandCode::PolicyCommandCode => ReplyBody::PolicyCommandCode,
+        CommandCode::PolicyOr => ReplyBody::PolicyOr,
         CommandCode::StartAuthSession => match handle {
-            Some(session) => session::read_start_auth_session_reply(cursor, session, body)?,
+            Some(session) => return session::read_start_auth_session_reply(cursor, session, body),
             None => unreachable!(),
         },
-        CommandCode::PcrRead => pcr::read_pcr_read_reply(cursor, body)?,
-        CommandCode::PolicyPcr => *body = ReplyBody::PolicyPcr,
-        CommandCode::PolicyRestart => *body = ReplyBody::PolicyRestart,
-        CommandCode::PcrExtend => *body = ReplyBody::PcrExtend,
-        CommandCode::PolicyGetDigest => *body = ReplyBody::PolicyGetDigest(take_only(cursor)?),
-    }
+        CommandCode::PcrRead => return pcr::read_pcr_read_reply(cursor, body),
+        CommandCode::PolicyPcr => ReplyBody::PolicyPcr,
+        CommandCode::PolicyRestart => ReplyBody::PolicyRestart,
+        CommandCode::PcrExtend => ReplyBody::PcrExtend,
+        CommandCode::PolicyGetDigest => ReplyBody::PolicyGetDigest(take_only(cursor)?),
+    };
     Ok(())
 }
 
