@@ -226,10 +226,19 @@ same_images() {
     "$room/events" images <checks/logs/images.log | grep -q -F ' file=\\EFI\\BOOT\\BOOTX64.EFI'
 }
 
-# same_contents: what the data of the records of each log say that has a list of registers, as Python's struct tells it.
-same_contents() {
+# same_objects: the object of each record of each log is the one of tpmtool.
+same_objects() {
     "$compiler" -std=c99 -O2 -Wall -Wextra -pedantic -Werror -Iinclude -o "$room/contents" checks/contents.c "$archive" ||
         return 1
+    for log in checks/logs/*.log checks/quotes/*.log; do
+        "$program" events --json "$log" | sed '/^{"fault"/d' >"$room/out.wanted"
+        "$room/contents" objects <"$log" >"$room/out" && cmp "$room/out" "$room/out.wanted" ||
+            { echo "$log" && return 1; }
+    done
+}
+
+# same_contents: what the data of the records of each log say that has a list of registers, as Python's struct tells it.
+same_contents() {
     for list in checks/logs/*.registers; do
         log=${list%.registers}.log
         python3 checks/contents.py "$log" >"$room/out.wanted" || return 1
@@ -696,6 +705,7 @@ else
     holds "the variables of the logs through C" same_variables
     holds "the names of types and the texts of the logs through C" same_texts
     holds "the images of the logs through C" same_images
+    holds "the objects of the records of the logs through C are those of tpmtool" same_objects
     if command -v python3 >/dev/null 2>&1; then
         holds "what the data of the records of the logs say through C" same_contents
     else
