@@ -1,6 +1,7 @@
 //! The lines of a list of allowed digests.
 
-ghost use Rattle.std.specs.Prelude.{◌≡◌, ◌<◌, ◌≤◌, ◌∷◌, IfOk, IfSome, length, option_map, position};
+ghost use Rattle.std.specs.Prelude.{◌≡◌, ◌<◌, ◌≤◌, ◌∷◌, IfOk, IfSome, MatchResult, length, option_map, position, unwrap_or};
+ghost use Rattle.hex.specs.Hex.{decode_sized, hex_digit_value};
 ghost use Rattle.std.specs.List.{slice_split};
 ghost use Rattle.tpm_output.specs.Text.{bytes_in};
 ghost use Rattle.tpm_check.specs.AllowLines.{allow_line, allowed_in, allowing, allowing_in, before_comment};
@@ -8,6 +9,7 @@ ghost use Rattle.tpm_check.specs.AllowLines.{begins_comment, is_blank, is_feed};
 ghost use Rattle.tpm_check.specs.inner.AllowReading.{lines_left, read_as};
 
 use crate::stated::{bank_named, cut, register_named};
+use memchr::memchr;
 use std::alloc::{AllocError, Global};
 use tpm_types::{Alg, DIGEST_BYTES, HashedDigest, PcrIndex};
 use tpm_vouched::AllowedDigest;
@@ -23,6 +25,36 @@ pub(crate) enum AllowLine {
     Wrong,
 }
 
+// The value of a hexadecimal digit, and 16 of any other byte.
+fn digit_value(digit: u8) -> u8
+    ensures { result ≡ unwrap_or (hex_digit_value digit) 16 }
+{
+    match digit {
+        b'0'..=b'9' => digit - b'0',
+        b'a'..=b'f' => digit - b'a' + 10,
+        b'A'..=b'F' => digit - b'A' + 10,
+        _ => 16,
+    }
+}
+
+// Whether these are the digits of so many bytes, which are then filled. Each digit is looked at, without a branch.
+fn decode(digits: &[u8], bytes: &mut [u8]) -> bool
+    ensures { MatchResult (decode_sized digits.now (length bytes.old))
+        (λ spelled. (result ≡ true) × (bytes.new ≡ spelled)) (λ _. result ≡ false) }
+{
+    if digits.len() % 2 != 0 || digits.len() / 2 != bytes.len() {
+        return false;
+    }
+    let mut all = 0;
+    for i in 0..bytes.len() {
+        let high = digit_value(digits[2 * i]);
+        let low = digit_value(digits[2 * i + 1]);
+        bytes[i] = high << 4 | low & 15;
+        all |= high | low;
+    }
+    all < 16
+}
+
 // What hexadecimal digits allow, where they spell a digest of the bank.
 #[tactic(auto, using(crate::proofs::AllowReading::spelled, crate::proofs::AllowReading::not_spelled))]
 fn read_digest(bank: Alg, register: PcrIndex, digits: &[u8]) -> AllowLine
@@ -30,7 +62,7 @@ fn read_digest(bank: Alg, register: PcrIndex, digits: &[u8]) -> AllowLine
 {
     let mut bytes = [0; DIGEST_BYTES];
     let bytes = &mut bytes[..bank.digest_len()];
-    if hex::decode_to_slice(digits, bytes).is_err() {
+    if !decode(digits, bytes) {
         return AllowLine::Wrong;
     }
     match HashedDigest::new(bank, bytes) {
@@ -52,10 +84,11 @@ fn read_words(text: &[u8]) -> AllowLine
     }
 }
 
+#[tactic(auto, using(crate::proofs::AllowReading::first_byte))]
 fn comment_in(line: &[u8]) -> Option<usize>
     ensures { result ≡ position begins_comment line.now }
 {
-    line.iter().position(|byte| *byte == b'#')
+    memchr(b'#', line)
 }
 
 fn before_comment(line: &[u8]) -> &[u8]
@@ -83,10 +116,11 @@ fn read_line(line: &[u8]) -> AllowLine
     read_words(text)
 }
 
+#[tactic(auto, using(crate::proofs::AllowReading::first_byte))]
 fn first_feed(bytes: &[u8]) -> Option<usize>
     ensures { result ≡ position is_feed bytes.now }
 {
-    bytes.iter().position(|byte| *byte == b'\n')
+    memchr(b'\n', bytes)
 }
 
 // The first line, and what stands behind its line feed, where it has one.

@@ -10,6 +10,7 @@ ghost use Rattle.tpm_check.specs.AllowedBoot.{SaysOfRead, SaysOfSelected, on_boo
 ghost use Rattle.tpm_check.specs.inner.CheckAttest.{Adds};
 ghost use Rattle.tpm_check.specs.Compare.{Verdict, not_a_register_text, printed};
 
+use crate::allow_index::AllowIndex;
 use crate::allow_lines::read_allowed;
 use crate::allow_told::push_beside_list;
 use crate::beside::Beside;
@@ -29,25 +30,24 @@ use tpm_output::answer::Answer;
 use tpm_output::fault::ToolFault;
 use tpm_output::status::Status;
 use tpm_types::Selections;
-use tpm_vouched::{AllowList, AllowedDigest};
+use tpm_vouched::AllowedDigest;
 
 // What is printed of a log beside these digests.
 fn answer_to_digests(
     alloc: Global,
     json: bool,
-    digests: Vec<AllowedDigest>,
+    digests: &[AllowedDigest],
     quoted: &Selections,
     log: &Log<'_>,
 ) -> Result<Answer, AllocError>
     ensures { IfOk result (λ a. SaysOfRead
-        (record { json = json; selections = quoted.now; log = log.now }) (Ok digests.items)
+        (record { json = json; selections = quoted.now; log = log.now }) (Ok digests.now)
         (printed a.status (string_bytes a.text))) }
 {
-    let mut digests = digests;
-    let list = AllowList::new(digests.as_mut_slice());
-    if let [] = list.digests() {
+    if let [] = digests {
         return Answer::of(alloc, Status::Refused, no_register_text(json, false));
     }
+    let list = AllowIndex::new(alloc, digests)?;
     let mut text = String::new(alloc);
     let status = push_beside_list(alloc, &mut text, json, &list, quoted, log)?;
     Ok(Answer { status, text })
@@ -89,7 +89,7 @@ fn answer_to_list(
         return Answer::of(alloc, Status::Refused, too_long_text(json));
     }
     match read_allowed(alloc, bytes)? {
-        Ok(digests) => answer_to_digests(alloc, json, digests, quoted, log),
+        Ok(digests) => answer_to_digests(alloc, json, digests.as_slice(), quoted, log),
         Err(number) => wrong_line(alloc, json, number),
     }
 }

@@ -6,6 +6,7 @@ ghost use Rattle.tpm_check.specs.Compare.{is_space, first_word, behind_word, ban
 ghost use Rattle.tpm_check.specs.Compare.{stated_in};
 ghost use Rattle.tpm_check.specs.inner.Comparing.{stated_as};
 
+use memchr::memchr;
 use std::alloc::{AllocError, Global};
 use tpm_output::hexadecimal::decoded;
 use tpm_types::{Alg, PcrIndex};
@@ -23,10 +24,11 @@ pub(crate) struct Stated {
     pub(crate) value: Vec<u8>,
 }
 
+#[tactic(auto, using(crate::proofs::AllowReading::first_byte))]
 fn first_space(text: &[u8]) -> Option<usize>
     ensures { result ≡ position is_space text.now }
 {
-    text.iter().position(|byte| *byte == b' ')
+    memchr(b' ', text)
 }
 
 /// What stands before the first space, or all where there is none; and what stands behind it.
