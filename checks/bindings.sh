@@ -7,6 +7,7 @@
 #     events FILE                                         as examples/events.c, which checks/c.sh compares
 #     texts FILE                                          as examples/events.c, which checks/c.sh compares
 #     contents FILE                                       as checks/contents.py
+#     objects FILE                                        `tpmtool events --json FILE`, of the records alone
 #     boot FILE BANK                                      as examples/secure_boot.c, which checks/c.sh compares
 #     quote FILE HEX HASH                                 as examples/log.c
 #     attest LOG HEX NONCE REQUIRE HASH [LIST]            a quote as it was signed; `any` nonce, or `any` registers;
@@ -157,6 +158,8 @@ ROWS
             echo "contents $log" >>"$table"
             python3 checks/contents.py --replaced "$log" >>"$table.wanted" || return 1
         fi
+        echo "objects $log" >>"$table"
+        "$program" events --json "$log" | sed '/^{"fault"/d' >>"$table.wanted"
         for bank in sha1 sha256 sha384; do
             echo "boot $log $bank" >>"$table"
             "$room/c_boot" "$bank" <"$log" >>"$table.wanted"

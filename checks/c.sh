@@ -226,10 +226,19 @@ same_images() {
     "$room/events" images <checks/logs/images.log | grep -q -F ' file=\\EFI\\BOOT\\BOOTX64.EFI'
 }
 
-# same_contents: what the data of the records of each log say that has a list of registers, as Python's struct tells it.
-same_contents() {
+# same_objects: the object of each record of each log is the one of tpmtool.
+same_objects() {
     "$compiler" -std=c99 -O2 -Wall -Wextra -pedantic -Werror -Iinclude -o "$room/contents" checks/contents.c "$archive" ||
         return 1
+    for log in checks/logs/*.log checks/quotes/*.log; do
+        "$program" events --json "$log" | sed '/^{"fault"/d' >"$room/out.wanted"
+        "$room/contents" objects <"$log" >"$room/out" && cmp "$room/out" "$room/out.wanted" ||
+            { echo "$log" && return 1; }
+    done
+}
+
+# same_contents: what the data of the records of each log say that has a list of registers, as Python's struct tells it.
+same_contents() {
     for list in checks/logs/*.registers; do
         log=${list%.registers}.log
         python3 checks/contents.py "$log" >"$room/out.wanted" || return 1
@@ -558,8 +567,7 @@ in_flash() {
     ' "$room/flash"
 }
 
-# on_stack: no call takes more than 6 KB of stack by LLVM, or 8 of a log. By the toolchain's compiler, which puts the
-# values of a match's arms side by side, none takes more than 12, but 13 to execute a command and 17 to build one.
+# on_stack: no call takes more than 6 KB of stack by LLVM, or 8 of a log, nor more than 12 by the toolchain's compiler.
 on_stack() {
     CC="$compiler" bench/stack crates/tpm_c/out/llvm/libtpm_c.a crates/tpm_c/out/rattle/libtpm_c.a >"$room/stack" ||
         return 1
@@ -567,8 +575,7 @@ on_stack() {
         $2 ~ /tpm_/ {
             gsub(/[ ,]/, "")
             rows++
-            most = $2 ~ /tpm_command_build/ ? 17 : $2 ~ /tpm_device_execute/ ? 13 : 12
-            if ($3 > 1024 * ($2 ~ /tpm_log_/ ? 8 : 6) || $4 > 1024 * most) { print; wrong = 1 }
+            if ($3 > 1024 * ($2 ~ /tpm_log_/ ? 8 : 6) || $4 > 1024 * 12) { print; wrong = 1 }
         }
         END { exit wrong || !rows }
     ' "$room/stack"
@@ -698,6 +705,7 @@ else
     holds "the variables of the logs through C" same_variables
     holds "the names of types and the texts of the logs through C" same_texts
     holds "the images of the logs through C" same_images
+    holds "the objects of the records of the logs through C are those of tpmtool" same_objects
     if command -v python3 >/dev/null 2>&1; then
         holds "what the data of the records of the logs say through C" same_contents
     else

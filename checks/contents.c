@@ -1,9 +1,11 @@
-/* What the data of the records of a log say, from standard input: the lines of checks/contents.py. */
+/* What the data of the records of a log say, from standard input: the lines of checks/contents.py, or with a word the
+ * records' objects. */
 #include "vinjakwe.h"
 
 #include <stdio.h>
 
 static uint8_t bytes[16777217];
+static uint8_t object[16777216];
 
 static void show(const uint8_t *data, struct tpm_part it) {
     printf(it.len == 0 ? " -" : " ");
@@ -16,6 +18,7 @@ static void show_number(uint64_t number) { printf(" %llu", (unsigned long long)n
 static void show_nodes(const uint8_t *data, struct tpm_part path) {
     struct tpm_path_node it;
     const char *between = " ";
+    size_t count = tpm_log_path_json(data + path.at, path.len, object, 2 + 16 * path.len);
     while (tpm_log_path_node(data + path.at, path.len, &it) == TPM_PATH_NODE) {
         printf("%s%u:%u:", between, it.type, it.subtype);
         for (size_t i = 0; i < it.value.len; i++)
@@ -24,8 +27,7 @@ static void show_nodes(const uint8_t *data, struct tpm_part path) {
         path.at += it.value.at + it.value.len;
         path.len -= it.value.at + it.value.len;
     }
-    if (*between == ' ')
-        printf(" -");
+    printf("%s %.*s", *between == ' ' ? " -" : "", (int)count, (char *)object);
 }
 
 static void show_option(int number, const uint8_t *value, size_t len) {
@@ -212,12 +214,25 @@ static void show_content(int number, uint32_t type, const uint8_t *data, size_t 
     }
 }
 
-int main(void) {
+/* The object of a record has the room that the header names, and room for all its bytes but one is too small. */
+static void show_object(size_t number, size_t len, const struct tpm_log_event *event) {
+    size_t count = tpm_log_event_json(bytes, len, event->at, number, object, 4096 + 16 * event->data.len);
+    if (count == 0 || tpm_log_event_json(bytes, len, event->at, number, object, count - 1) != 0)
+        printf("%zu no object", number);
+    count = tpm_log_event_json(bytes, len, event->at, number, object, count);
+    printf("%.*s\n", (int)count, (char *)object);
+}
+
+int main(int words, char **word) {
+    (void)word;
     size_t len = fread(bytes, 1, sizeof bytes, stdin);
     struct tpm_log_place place = {0, 0};
     struct tpm_log_event event;
     uint32_t at;
     for (int number = 1; tpm_log_event(bytes, len, &place, &event, &at) == TPM_EVENT; number++)
-        show_content(number, event.type, bytes + event.data.at, event.data.len);
+        if (words > 1)
+            show_object((size_t)number, len, &event);
+        else
+            show_content(number, event.type, bytes + event.data.at, event.data.len);
     return 0;
 }

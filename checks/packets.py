@@ -33,6 +33,11 @@ def back(number, data, client=40000, flags=0x18):
     return ip(False, 0, tcp(False, number, data, client, flags))
 
 
+def ip_version_6(to_tpm, packet):
+    ends = [bytes(15) + b"\1", bytes(15) + b"\2"]
+    return struct.pack(">IHBB", 0x60000000, len(packet), 6, 64) + b"".join(ends if to_tpm else ends[::-1]) + packet
+
+
 def ether(packet):
     return bytes(12) + struct.pack(">H", 0x0800) + packet
 
@@ -104,6 +109,7 @@ OVER_MSSIM = [
     to(7 + 9 + 12, struct.pack(">I", 20)),
 ]
 SWTPM = [to(1, STARTUP), back(1, DONE), to(13, GET_RANDOM), back(11, EIGHT)]
+VERSION_6 = [ip_version_6(True, tcp(True, 1, STARTUP)), ip_version_6(False, tcp(False, 1, DONE))]
 WRAPPED = [to(2**32 - 4, STARTUP), back(1, DONE), to(8, STARTUP), back(11, DONE)]
 
 FILES = {
@@ -153,7 +159,28 @@ FILES = {
     "length": [section(), interface(101), enhanced(SWTPM[0]), enhanced(SWTPM[1])[:-4], bytes(4), enhanced(SWTPM[1])],
     "version": [section(version=2), interface(101), enhanced(SWTPM[0])],
     "ended_block": [section(), interface(101), enhanced(SWTPM[0]), enhanced(SWTPM[1])[:-4]],
+    "version_6": savefile(101, VERSION_6),
+    # in a second section there is no interface of the first one
+    "anew": [section(), interface(101), enhanced(SWTPM[0]), section(), enhanced(SWTPM[1])],
 }
+# Blocks that are malformed: a length that is no multiple of four, one below 12, and one that is not repeated; an
+# interface and packets that don't fit; a section that doesn't fit, one of another magic, and one of major version 2.
+MALFORMED = [
+    struct.pack("<IIHI", 5, 14, 0, 14),
+    struct.pack("<III", 5, 8, 8),
+    struct.pack("<III", 5, 12, 16),
+    block(1, bytes(4)),
+    block(3, b""),
+    block(6, struct.pack("<IIIII", 0, 0, 0, 1, 1)),
+    block(0x0A0D0D0A, struct.pack("<IHHI", 0x1A2B3C4D, 1, 0, 0xFFFFFFFF)),
+    block(0x0A0D0D0A, struct.pack("<IHHq", 0, 1, 0, -1)),
+    section(version=2),
+]
+# Blocks of which the end is not there: of one, of one behind its head, and of a section behind its magic.
+CUT = [struct.pack("<II", 5, 16), struct.pack("<III", 5, 16, 0), section()[:12]]
+for kind, blocks in ("malformed", MALFORMED), ("cut_block", CUT):
+    for number, last in enumerate(blocks, 1):
+        FILES[f"{kind}_{number}"] = [section(), interface(101), enhanced(SWTPM[0]), last]
 
 
 def main(folder):

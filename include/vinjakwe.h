@@ -481,6 +481,17 @@ struct tpm_content {
  * Types"); or TPM_LOG_DONE: nothing of them is known, as of another type, or of data with a fault. */
 uint32_t tpm_log_event_content(uint32_t kind, const uint8_t *bytes, size_t len, struct tpm_content *view);
 
+/* Writes the object of JSON (RFC 8259) that `tpmtool events --json` prints of a record of a log, without the line feed, to the beginning of
+ * `out`, with no zero behind it, and says how many bytes it has. It has ASCII alone. The record is the one of which tpm_log_event tells this
+ * `at`, and `number` is the object's own: from 1 on for the records one by one. It answers 0 where out_len is less, and `out` is then left
+ * open; or where no record is there, and nothing is written. 4,096 bytes and 16 for each of the record's data are enough. */
+size_t tpm_log_event_json(const uint8_t *log, size_t len, uint32_t at, size_t number, uint8_t *out, size_t out_len);
+
+/* Writes the text of the device path that these bytes are, up to its first fault, to the beginning of `out`, as a string of JSON with its
+ * quotation marks (UEFI Specification, "Device Path Text Representation"; half a surrogate pair is U+FFFD), and says how many bytes it
+ * has. It answers 0 where out_len is less, and `out` is then left open. 2 bytes and 16 for each of the path are enough. */
+size_t tpm_log_path_json(const uint8_t *bytes, size_t len, uint8_t *out, size_t out_len);
+
 /* A partition, EFI_PARTITION_ENTRY: the GUID of its type, and its own; its first and its last block; Attributes; and its name in UTF-16, to
  * the first zero. */
 struct tpm_partition {

@@ -125,6 +125,14 @@ type Event struct {
 	Type     uint32
 	Digests  []Digest
 	Data     []byte
+	log      []byte
+}
+
+// JSON is the object that `tpmtool events --json` prints of the record, which Events gave: the log is read again. It is
+// empty where the log hasn't the record any more, and of any other Event.
+func (e Event) JSON() []byte {
+	at, number, room := C.uint32_t(e.At), C.size_t(e.Number), make([]byte, 4096+16*len(e.Data))
+	return room[:C.tpm_log_event_json(place(e.log), size(e.log), at, number, place(room), size(room))]
 }
 
 // Digest is the record's of a bank, or nil where it has none.
@@ -356,6 +364,7 @@ func (e *Events) Next() bool {
 		Register: uint32(it.pcr),
 		Type:     uint32(it._type),
 		Data:     part(e.log, it.data),
+		log:      e.log,
 	}
 	for _, found := range it.digests[:it.digest_count] {
 		e.event.Digests = append(e.event.Digests, Digest{Hash(found.hash), part(e.log, found.digest), found.hashed != 0})

@@ -577,6 +577,9 @@ func TestImagesOfEachLogWithAList(t *testing.T) {
 			if told.Measured == nil || !events.Next() {
 				continue
 			}
+			if found := string(events.Event().JSON()); found != line {
+				t.Error(found, line)
+			}
 			it, is := events.Event().Image()
 			// An image whose device path has a fault is none in the list.
 			if told.Image != nil && (!is || fmt.Sprintf("%#x", it.Address) != told.Image.Address ||

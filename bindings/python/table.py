@@ -76,8 +76,8 @@ def wide(text):
 
 
 def nodes(path):
-    told = vinjakwe.path_text(path).encode("utf-16-le", "surrogatepass").decode("utf-16-le", "replace")
-    return f"{','.join(f'{it.type}:{it.subtype}:{it.data.hex()}' for it in path) or '-'} {shown(told.encode())}"
+    told = ",".join(f"{it.type}:{it.subtype}:{it.data.hex()}" for it in path)
+    return f"{told or '-'} {shown(vinjakwe.path_text(path).encode())}"
 
 
 def held(it):
@@ -133,6 +133,13 @@ def content(it):
 def contents(log):
     for it in vinjakwe.events(log):
         yield from (f"{it.number} {line}" for line in content(it.content))
+
+
+def objects(log):
+    try:
+        yield from (it.json for it in vinjakwe.events(log))
+    except LogFault:
+        pass
 
 
 def boot(log, bank):
@@ -225,6 +232,8 @@ class Answers:
             yield from texts(whole(*words))
         elif verb == "contents":
             yield from contents(whole(*words))
+        elif verb == "objects":
+            yield from objects(whole(*words))
         elif verb == "boot":
             yield from boot(whole(words[0]), words[1])
         elif verb == "quote":

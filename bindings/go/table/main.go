@@ -216,6 +216,10 @@ func main() {
 			texts(read(words[1]))
 		case "contents":
 			contents(read(words[1]))
+		case "objects":
+			for it := vinjakwe.NewEvents(read(words[1])); it.Next(); {
+				fmt.Fprintf(out, "%s\n", it.Event().JSON())
+			}
 		case "boot":
 			boot(words)
 		case "quote":

@@ -119,6 +119,24 @@ def objects():
         yield path.with_suffix(".log"), [json.loads(line) for line in path.read_text().splitlines()]
 
 
+class Objects(unittest.TestCase):
+    def test_each_log_with_a_list_of_objects(self):
+        for path, told in objects():
+            found = [json.loads(it.json) for it in v.events(path)]
+            self.assertEqual(found, [it for it in told if "measured" in it], path)
+
+    def test_a_record_of_no_log(self):
+        for event in v.events(LOG):
+            for other in v.Event(*event), pickle.loads(pickle.dumps(event)):
+                self.assertEqual(other, event)
+                with self.assertRaises(ValueError):
+                    other.json
+
+    def test_a_node_of_a_path(self):
+        self.assertEqual(str(v.PathNode(4, 4, "\\a\0".encode("utf-16-le"))), "\\a")
+        self.assertEqual(v.path_text(v.PathNode(127, it, b"") for it in (1, 2, 255)), ",Path(127,2)")
+
+
 class Images(unittest.TestCase):
     def test_each_log_with_a_list_of_objects(self):
         files = set()

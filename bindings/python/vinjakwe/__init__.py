@@ -10,16 +10,16 @@ from __future__ import annotations
 import ctypes
 import enum
 import importlib
+import json
 import os
 import uuid
 from contextlib import contextmanager
 from ctypes import POINTER, Structure, byref, c_size_t, c_uint8, c_uint16, c_uint32, c_uint64, c_void_p
 from ctypes.util import find_library
 from dataclasses import dataclass
-from ipaddress import IPv4Address, IPv6Address
 from mmap import mmap
 from pathlib import Path
-from struct import calcsize, unpack, unpack_from
+from struct import pack
 from typing import (
     TYPE_CHECKING, Any, BinaryIO, Callable, Dict, Final, Iterable, Iterator, Literal, NamedTuple, Tuple, Union,
 )
@@ -345,6 +345,7 @@ def _load() -> tuple[ctypes.PyDLL, ctypes.CDLL]:
         ("log_image", number, [number, p, size, POINTER(_Image)]),
         ("log_path_node", number, [p, size, POINTER(_PathNode)]),
         ("log_event_content", number, [number, p, size, POINTER(_Content)]),
+        ("log_event_json", size, [p, size, number, size, p, size]), ("log_path_json", size, [p, size, p, size]),
         ("log_partition", number, [p, size, POINTER(_Partition)]), ("log_table", number, [p, size, POINTER(_Table)]),
         ("log_signature_list", number, [p, size, POINTER(_SignatureList)]),
         ("log_owned", number, [p, size, POINTER(_Owned)]),
@@ -584,11 +585,7 @@ def _replay_file(read: Callable[[int], bytes], out: ctypes.Array[c_uint8], at: c
     return int(_library.tpm_log_replay_end(room, out, byref(at)))
 
 
-class Event(NamedTuple):
-    """A record of a log: its place among them from 1 on, how many bytes of the log precede it, its register, its type,
-    the digests and the event's data. A hash is told by its name in HASHES, or else by its number. `hashed`: those whose
-    digest is that hash of the data; another is not wrong."""
-
+class _Event(NamedTuple):
     number: int
     at: int
     register: int
@@ -597,10 +594,36 @@ class Event(NamedTuple):
     data: bytes
     hashed: tuple[str | int, ...]
 
+
+class Event(_Event):
+    """A record of a log: its place among them from 1 on, how many bytes of the log precede it, its register, its type,
+    the digests and the event's data. A hash is told by its name in HASHES, or else by its number. `hashed`: those whose
+    digest is that hash of the data; another is not wrong."""
+
+    _log: Buffer = b""
+
     @property
     def content(self) -> Content | None:
         """What the data say: `content` of the record."""
         return content(self)
+
+    @property
+    def json(self) -> str:
+        """The object that `tpmtool events --json` prints of the record, which `events` gave: the log is read again.
+        Raises ValueError where it hasn't the record any more, or the record was pickled."""
+        return _json(len(self.data), "tpm_log_event_json", (self._log,), self.at, self.number)
+
+    def __reduce__(self) -> tuple[type[Event], tuple[Any, ...]]:
+        return Event, tuple(self)
+
+
+def _json(size: int, name: str, *words: Any) -> str:
+    """The JSON that the call of this name writes of so many bytes."""
+    room = (c_uint8 * (4096 + 16 * size))()
+    count = _lend_long(name, *words, room, len(room))
+    if not count:
+        raise ValueError("the log has no such record")
+    return ctypes.string_at(room, count).decode("ascii")
 
 
 def events(log: Log) -> Iterator[Event]:
@@ -614,7 +637,9 @@ def events(log: Log) -> Iterator[Event]:
         with memoryview(whole).cast("B") as view:
             digests, data = {name: _part(view, it.digest) for name, it in found}, _part(view, event.data)
         hashed = tuple(name for name, it in found if it.hashed)
-        yield Event(number, event.at, event.pcr, event.type, digests, data, hashed)
+        record = Event(number, event.at, event.pcr, event.type, digests, data, hashed)
+        record._log = whole
+        yield record
     _raise_fault(said, at.value)
 
 
@@ -678,60 +703,7 @@ class PathNode(NamedTuple):
     data: bytes
 
     def __str__(self) -> str:
-        at, data, size = (self.type, self.subtype), self.data, len(self.data)
-        if at in _NUMBERS and size == calcsize(_NUMBERS[at][0]):
-            layout, text = _NUMBERS[at]
-            return text.format(*unpack(layout, data))
-        if at in _NAMED and (size == 16 or size > 16 and at in _VENDORS):
-            return f"{_NAMED[at]}({_by_commas(str(uuid.UUID(bytes_le=data[:16])), data[16:].hex())})"
-        if at == (2, 1) and size == 8:
-            id, unique = unpack("<II", data)
-            return f"{_ACPI_NAMES[id]}({unique:#x})" if id in _ACPI_NAMES else f"Acpi({id:#010x},{unique:#x})"
-        if at == (3, 11) and size == 33:
-            return f"MAC({data[:6 if data[32] <= 1 else 32].hex()},{data[32]:#x})"
-        if at == (3, 12) and size in (15, 23):
-            return f"IPv4({_network(data, IPv4Address, ('DHCP', 'Static'), data[15:])})"
-        if at == (3, 13) and size in (39, 56):
-            prefix = [f"{it:#x}" for it in data[39:40]]
-            return f"IPv6({_network(data, IPv6Address, _ORIGINS, data[40:], *prefix)})"
-        if at == (3, 23) and size == 12:
-            return f"NVMe({int.from_bytes(data[:4], 'little'):#x},{data[4:].hex('-')})"
-        if at == (3, 24):
-            return f"Uri({data.decode('latin-1')})"
-        if at == (4, 1) and size == 38:
-            number, start, blocks, signature, kind = unpack("<IQQ16sxB", data)
-            by = {1: f"MBR,0x{signature[3::-1].hex()}", 2: f"GPT,{uuid.UUID(bytes_le=signature)}"}
-            return f"HD({number},{by.get(kind, f'{kind},0')},{start:#x},{blocks:#x})"
-        if at == (4, 4) and size % 2 == 0 and data not in (b"", b"\0\0"):
-            return _path_name(data)
-        return f"Path({_by_commas(*map(str, at), data.hex())})"
-
-
-_NUMBERS = {
-    (1, 1): ("<BB", "Pci({1:#x},{0:#x})"), (3, 2): ("<HH", "Scsi({:#x},{:#x})"), (3, 5): ("<BB", "USB({:#x},{:#x})"),
-    (3, 18): ("<HHH", "Sata({:#x},{:#x},{:#x})"), (4, 2): ("<IQQ", "CDROM({:#x},{:#x},{:#x})"),
-    (4, 8): ("<4xQQ", "Offset({:#x},{:#x})"),
-}
-_VENDORS = {(1, 4): "VenHw", (3, 10): "VenMsg", (4, 3): "VenMedia"}
-_NAMED = {**_VENDORS, (4, 6): "FvFile", (4, 7): "Fv"}
-_ACPI_NAMES = {0x0A0341D0: "PciRoot", 0x0A0841D0: "PcieRoot", 0x060441D0: "Floppy", 0x030141D0: "Keyboard",
-               0x050141D0: "Serial", 0x040141D0: "ParallelPort"}
-_ORIGINS = ("Static", "StatelessAutoConfigure", "StatefulAutoConfigure")
-
-
-def _by_commas(*words: str) -> str:
-    return ",".join(filter(None, words))
-
-
-def _network(
-    data: bytes, address: type[IPv4Address] | type[IPv6Address], origins: tuple[str, ...], rest: bytes, *prefix: str,
-) -> str:
-    """The remote address of a network's node, the protocol, where the local address is from, that, and what is behind."""
-    size = 4 if address is IPv4Address else 16
-    protocol, origin = unpack_from("<HB", data, 2 * size + 4)
-    addresses = [address(it[at:at + size]).exploded for it in (data[:2 * size], rest) for at in range(0, len(it), size)]
-    return _by_commas(addresses[1], {6: "TCP", 17: "UDP"}.get(protocol, f"{protocol:#x}"),
-                      origins[min(origin, len(origins) - 1)], addresses[0], *prefix, *addresses[2:])
+        return path_text((self,))
 
 
 def _path_name(data: bytes) -> str:
@@ -739,14 +711,11 @@ def _path_name(data: bytes) -> str:
 
 
 def path_text(path: Iterable[PathNode]) -> str:
-    """The text of a device path, by its nodes: a slash is between two of them, and a comma between two paths."""
-    text = between = ""
-    for node in path:
-        if node == (0x7F, 1, b""):
-            text, between = text + ",", ""
-        elif node[:2] != (0x7F, 0xFF):
-            text, between = f"{text}{between}{node}", "/"
-    return text
+    """The text of a device path, by its nodes: a slash is between two of them, and a comma between two paths. Units of
+    a file's name that are no UTF-16 are U+FFFD."""
+    nodes = [pack("<BBH", *it[:2], 4 + len(it.data)) + it.data for it in path if it[:2] != (0x7F, 0xFF)]
+    data = b"".join(nodes) + b"\x7f\xff\x04\0"
+    return str(json.loads(_json(len(data), "tpm_log_path_json", (data,))))
 
 
 class Image(NamedTuple):

@@ -100,7 +100,8 @@ fn wide(chars: impl Iterator<Item = char>) -> String {
 fn nodes(path: &[u8]) -> String {
     let told: Vec<String> = path_nodes(path).map(|it| format!("{}:{}:{}", it.kind, it.subtype, hex(it.data))).collect();
     let told = if told.is_empty() { "-".into() } else { told.join(",") };
-    format!("{told} {}", text(PathText(path).to_string().as_bytes()))
+    let mut room = vec![0; 2 + 16 * path.len()];
+    format!("{told} {}", text(PathText::of(path, &mut room).unwrap().to_string().as_bytes()))
 }
 
 fn owned(it: Owned) -> String {
@@ -171,6 +172,14 @@ fn tell_contents(out: &mut impl Write, log: &[u8]) -> std::io::Result<()> {
         for line in it.content().map_or(vec![], content_lines) {
             writeln!(out, "{} {line}", it.number)?;
         }
+    }
+    Ok(())
+}
+
+fn tell_objects(out: &mut impl Write, log: &[u8]) -> std::io::Result<()> {
+    for it in events(log).flatten() {
+        let mut room = vec![0; 4096 + 16 * it.data.len()];
+        writeln!(out, "{}", it.json(&mut room).unwrap())?;
     }
     Ok(())
 }
@@ -324,6 +333,7 @@ fn main() -> std::io::Result<()> {
             "events" => tell_events(out, &std::fs::read(words[1])?)?,
             "texts" => tell_texts(out, &std::fs::read(words[1])?)?,
             "contents" => tell_contents(out, &std::fs::read(words[1])?)?,
+            "objects" => tell_objects(out, &std::fs::read(words[1])?)?,
             "boot" => tell_boot(out, &std::fs::read(words[1])?, words[2])?,
             "quote" => match check_quote(&std::fs::read(words[1])?, &unhex(words[2]), bank(words[3])) {
                 Ok(verdict) => writeln!(out, "quote {}", verdict.to_string().trim_start_matches("digest "))?,

@@ -161,6 +161,13 @@ fn log_judged(kind: u32, at: u32) -> Result<(), Fault> {
     }
 }
 
+/// The text that a call writes to the beginning of the room, unless it answers that it wrote none.
+fn text_in(room: &mut [u8], call: impl FnOnce(*mut u8, usize) -> usize) -> Result<&str, Fault> {
+    let count = call(room.as_mut_ptr(), room.len());
+    let text = room.get(..count).and_then(|it| core::str::from_utf8(it).ok());
+    text.filter(|it| !it.is_empty()).ok_or(Fault::Length)
+}
+
 fn part(bytes: &[u8], it: c::tpm_part) -> &[u8] {
     bytes.get(it.at..).and_then(|rest| rest.get(..it.len)).unwrap_or(&[])
 }

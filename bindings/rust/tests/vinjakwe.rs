@@ -339,6 +339,8 @@ fn what_was_measured_of_each_log_with_a_list() {
         }
         let (log, lines) = (fs::read(log).unwrap(), fs::read_to_string(&list).unwrap());
         for (it, line) in events(&log).map_while(Result::ok).zip(lines.lines().filter(|it| it.contains("measured"))) {
+            assert_eq!(it.json(&mut vec![0; line.len()]), Ok(line));
+            assert_eq!(it.json(&mut vec![0; line.len() - 1]), Err(Fault::Length));
             for bank in Bank::ALL {
                 let told = it.measured(bank).map_or(String::new(), |it| format!("\"{bank}\":\"{it}\""));
                 assert!(line.contains(&told), "{line}");

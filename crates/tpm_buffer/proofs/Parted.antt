@@ -14,7 +14,7 @@ use Rattle.tpm_wire.proofs.Agreement.{ok_is, bind_ok}
 use Rattle.tpm_wire.proofs.Buffers.{buffer_sound, buffer_roomy}
 use Rattle.tpm_wire.proofs.Whole.{spells_read, read_spells}
 use Rattle.tpm_types.specs.declared.command_code.CommandCode.{CommandCode}
-use Rattle.tpm_commands.specs.declared.response.ReplyBody.{ReplyBody}
+use Rattle.tpm_commands.specs.declared.command.ReplyBody.{ReplyBody}
 use Rattle.tpm_commands.specs.declared.response.Response.{Response}
 use Rattle.tpm_commands.specs.Replies.{reply_handles, reply_parameters, parameters_of_reply}
 use Rattle.tpm_types.proofs.Short.{ok, err}

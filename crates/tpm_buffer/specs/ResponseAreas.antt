@@ -2,7 +2,7 @@
 use Rattle.std.specs.Prelude.{◌≡◌, ℕ, ◌+◌, ◌*◌, List, [], length, take, drop, Option, slice_get, ◌==◌, if◌then◌else◌}
 use Rattle.tpm_wire.specs.Path.{Spells}
 use Rattle.tpm_types.specs.declared.tpms.AuthReply.{AuthReply}
-use Rattle.tpm_commands.specs.declared.response.ReplyBody.{ReplyBody}
+use Rattle.tpm_commands.specs.declared.command.ReplyBody.{ReplyBody}
 use Rattle.tpm_commands.specs.declared.response.Response.{Response}
 use Rattle.tpm_commands.specs.Replies.{reply_handles_of, parameters_of_reply}
 use Rattle.tpm_commands.specs.declared.response.Response.TheVariants as responses

@@ -24,8 +24,9 @@ fn read_command<'a>(bytes: &'a [u8], decoded: &mut Command<'a>) -> Result<(), Re
 {
     let mut cursor = Cursor::new(bytes);
     let (header, handles) = read_before_params(&mut cursor, &mut decoded.auths)?;
-    decoded.body.begin(header.code);
-    decoded.body.read(&mut cursor, handles.as_slice())?;
+    decoded
+        .body
+        .read(&mut cursor, header.code, handles.as_slice())?;
     cursor.end()?;
     Ok(())
 }

@@ -9,7 +9,7 @@ ghost use Rattle.tpm_wire.specs.Path.{Spells, Fault};
 ghost use Rattle.tpm_commands.specs.declared.response.Response.{Response as ResponseOf};
 ghost use Rattle.tpm_commands.specs.Replies.{reply_parameters, handle_list, HasHandle, IsReplyTo};
 ghost use Rattle.tpm_commands.specs.declared.response.Response.TheVariants as responses;
-ghost use Rattle.tpm_commands.specs.declared.response.ReplyBody.TheVariants as replies;
+ghost use Rattle.tpm_commands.specs.declared.command.ReplyBody.TheVariants as replies;
 ghost use Rattle.tpm_buffer.specs.Responses.{is_response_tag, goes_with, with_sessions, reply};
 ghost use Rattle.tpm_buffer.specs.inner.Responses.{code_or_done};
 ghost use Rattle.tpm_buffer.specs.Responses.{tag_of_response, code_of_response, behind_code, response};

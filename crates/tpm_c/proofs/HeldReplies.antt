@@ -21,7 +21,8 @@ use Rattle.tpm_types.specs.Tpm2b.{nonce, auth_value}
 use Rattle.tpm_types.specs.Tpma.{is_session_attrs, session_attrs}
 use Rattle.tpm_types.specs.Tpms.{auth_response}
 use Rattle.tpm_types.specs.declared.command_code.CommandCode.{CommandCode}
-use Rattle.tpm_commands.specs.Replies.{session_handle, reply_handles}
+use Rattle.tpm_commands.specs.Replies.{reply_handles}
+use Rattle.tpm_commands.specs.Commands.Session.{session_handle}
 use Rattle.tpm_types.specs.declared.command_code.CommandCode.TheVariants as codes
 use Rattle.tpm_buffer.specs.Responses.{response_front, response_code, parameter_size, further_sessions, reply_sessions}
 use Rattle.tpm_buffer.specs.Responses.{ReplyCut, raw_with_sessions, raw_without_sessions, cut_behind_code, reply_cut}

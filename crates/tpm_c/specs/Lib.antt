@@ -6,6 +6,7 @@ pub mod CommandViews
 pub mod Contents
 pub mod Devices
 pub mod Entries
+pub mod EventJson
 pub mod Framers
 pub mod Images
 pub mod KeptDevices

@@ -102,7 +102,8 @@ fn look(
     ensures near { asks ≡ true → IfOk result (λ front. front.1 ≤ 4096) }
     ensures fault { asks ≡ true → IfErr result (λ e. Fault command_layout parts.now e) }
 {
-    let mut bytes = Buffer::new();
+    // (`Buffer::new` has the room of two by the toolchain's own compiler)
+    let mut bytes = Buffer::from([0; BUFFER_BYTES]);
     parts.join(&mut bytes);
     let joined = bytes.as_slice();
     let begun = &joined[from..];

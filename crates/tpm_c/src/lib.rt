@@ -11,6 +11,7 @@ mod command;
 mod content;
 mod device;
 mod entry;
+mod event_json;
 mod framer;
 mod handed;
 mod hash;
@@ -49,6 +50,7 @@ pub use content::{
 };
 pub use device::{tpm_device_execute, tpm_device_init, tpm_device_power_cycle};
 pub use entry::{TpmPartition, TpmTable, tpm_log_partition, tpm_log_table};
+pub use event_json::{tpm_log_event_json, tpm_log_path_json};
 pub use framer::{tpm_framer_frame, tpm_framer_init, tpm_framer_next, tpm_framer_push};
 pub use hash::tpm_hash;
 pub use image::{TpmImage, TpmPathNode, tpm_log_image, tpm_log_path_node};

@@ -18,10 +18,10 @@ use Rattle.tpm_wire.proofs.Numbers.{number_of-bytes}
 use Rattle.tpm_wire.proofs.Whole.{spells_read}
 use Rattle.tpm_types.specs.declared.tpms.AuthReply.{AuthReply}
 use Rattle.tpm_types.specs.declared.command_code.CommandCode.{CommandCode}
-use Rattle.tpm_commands.specs.declared.response.ReplyBody.{ReplyBody}
+use Rattle.tpm_commands.specs.declared.command.ReplyBody.{ReplyBody}
 use Rattle.tpm_commands.specs.Handles.{needs_authorization}
 use Rattle.tpm_commands.specs.Replies.{code_for_reply, reply_handles, reply_handles_of}
-use Rattle.tpm_commands.specs.declared.response.ReplyBody.TheVariants as replies
+use Rattle.tpm_commands.specs.declared.command.ReplyBody.TheVariants as replies
 use Rattle.tpm_buffer.specs.Commands.{command_size}
 use Rattle.tpm_buffer.specs.Responses.{is_response_tag, response_tag, response_front, parameter_size, reply_sessions}
 use Rattle.tpm_buffer.specs.Responses.{size_of_response, response, done_with, ReplyCut, raw_with_sessions}

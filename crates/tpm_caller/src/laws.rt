@@ -10,7 +10,7 @@ ghost use Rattle.tpm_commands.specs.declared.command.CommandBody.{CommandBody};
 ghost use Rattle.tpm_commands.specs.declared.command.StartAuth.{StartAuth};
 ghost use Rattle.tpm_commands.specs.declared.response.StartReply.{StartReply};
 ghost use Rattle.tpm_commands.specs.Handles.{needs_authorization, handle_kinds};
-ghost use Rattle.tpm_commands.specs.declared.response.ReplyBody.TheVariants as replies;
+ghost use Rattle.tpm_commands.specs.declared.command.ReplyBody.TheVariants as replies;
 ghost use Rattle.tpm_commands.specs.declared.response.Response.TheVariants as responses;
 ghost use Rattle.tpm_buffer.specs.Commands.{command, code_for, handles_of};
 ghost use Rattle.tpm_buffer.specs.Responses.{response};

@@ -7,7 +7,7 @@ ghost use Rattle.tpm_wire.specs.Spelling.{spelling};
 ghost use Rattle.tpm_commands.specs.declared.command.CommandBody.{CommandBody as CommandBodyOf};
 ghost use Rattle.tpm_commands.specs.declared.command.Params.{Params};
 ghost use Rattle.tpm_commands.specs.Parameters.{parameters, params_code};
-ghost use Rattle.tpm_buffer.specs.Commands.{command as command_layout, code_for, params_of};
+ghost use Rattle.tpm_buffer.specs.Commands.{command as command_layout, params_of};
 ghost use Rattle.tpm_caller.specs.Plain.{body_in, parts_in, PartsFit};
 ghost use Rattle.tpm_caller.specs.inner.Placing.{AreParams};
 
@@ -50,16 +50,18 @@ impl<'a> Model for Plain<'a> {
 
 // Reads the parameters of a command with this code in the place of others, or answers their first fault. Which handles
 // the command has is not said.
-fn read_params<'a>(body: &mut CommandBody<'a>, bytes: &'a [u8]) -> Result<(), Refusal>
+fn read_params<'a>(
+    code: CommandCode,
+    bytes: &'a [u8],
+    body: &mut CommandBody<'a>,
+) -> Result<(), Refusal>
     requires { length bytes.now ≤ 4096 }
-    ensures reads { Gives (λ _. params_of body.new)
-        (read_all (parameters (code_for body.old)) bytes.now) result }
-    ensures spelled { OnOk result
-        (bytes.now ≡ spelling (parameters (code_for body.old)) (params_of body.new)) }
-    ensures code { OnOk result (params_code (params_of body.new) ≡ code_for body.old) }
+    ensures reads { Gives (λ _. params_of body.new) (read_all (parameters code) bytes.now) result }
+    ensures spelled { OnOk result (bytes.now ≡ spelling (parameters code) (params_of body.new)) }
+    ensures code { OnOk result (params_code (params_of body.new) ≡ code) }
 {
     let mut cursor = Cursor::new(bytes);
-    body.read(&mut cursor, &[])?;
+    body.read(&mut cursor, code, &[])?;
     if cursor.left() > 0 {
         return Err(Refusal {
             code: SIZE,
@@ -79,8 +81,7 @@ fn are_params(code: CommandCode, bytes: &[u8]) -> bool
         → (e : RefusalOf) × (read_all (parameters code) bytes.now ≡ Err e) }
 {
     let mut body = CommandBody::Startup(StartupType::Clear);
-    body.begin(code);
-    match read_params(&mut body, bytes) {
+    match read_params(code, bytes, &mut body) {
         Ok(()) => body.params_len() <= PARAMS_BYTES,
         Err(_) => false,
     }

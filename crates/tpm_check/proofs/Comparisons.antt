@@ -1,26 +1,25 @@
 -- Lists of registers whose lines are compared one after the other.
 use Rattle.std.proofs.Common.{◌≡◌, ℕ, Bool, true, ◌+◌, ◌<◌, ◌≤◌, false, List, [], ◌∷◌, ◌++◌, length, take, Option, Some, None}
-use Rattle.std.proofs.Common.{◌||◌, cond, is_some, Bor, option_map, refl, sym, ap, subst, ◌∙◌, inl, inr, arith, length-append, length-take-le, position}
+use Rattle.std.proofs.Common.{◌||◌, Bor, option_map, refl, sym, ap, subst, ◌∙◌, inl, inr, arith, length-append, length-take-le, position}
 use Rattle.std.proofs.lemmas.List.Quantifiers.{position-Some}
-use Rattle.std.proofs.lemmas.List.{append-nil, take_all}
+use Rattle.std.proofs.lemmas.List.{take_all}
 use Rattle.std.proofs.lemmas.Bool.{cases_lt, lt-ltb}
-use Rattle.std.specs.Prelude.{suc, filter, IfSome, ◌≢◌}
+use Rattle.std.specs.Prelude.{filter, IfSome, ◌≢◌}
 use Rattle.std.specs.Str.{bytes_eq}
 use Rattle.std.specs.Fmt.{digits}
 use Rattle.std.specs.List.{AllByRecursion, list_any}
 use Rattle.std.specs.Io.KnownBytes.{Appends}
-use Rattle.tpm_types.specs.declared.alg.Alg.{Alg}
 use Rattle.tpm_check.specs.declared.beside.Beside.{Beside as InCode}
 use Rattle.tpm_check.specs.declared.compared.Comparing.{Comparing}
 use Rattle.tpm_check.specs.declared.stated.TheConstants.{REGISTERS}
 use Rattle.tpm_check.specs.declared.list_lines.Heading.TheVariants.{NoBank}
 use Rattle.tpm_check.specs.declared.list_lines.Heading.{Heading}
-use Rattle.tpm_check.specs.Compare.{Beside, Values, Comparison, ListLine, States, Heads, Passes, Wrong, line_under}
-use Rattle.tpm_check.specs.Compare.{heading_behind, lines_under, is_statement, is_value, no_register_text, states_any, with_end}
-use Rattle.tpm_check.specs.Compare.{bank_lines, register_line, register_names, register_named, comparison_of}
+use Rattle.tpm_check.specs.Compare.{Beside, Comparison, ListLine, States, Heads, Passes, Wrong, line_under}
+use Rattle.tpm_check.specs.Compare.{heading_behind, lines_under, is_statement, is_value, states_any}
+use Rattle.tpm_check.specs.Compare.{register_names, register_named, comparison_of}
 use Rattle.tpm_check.specs.Compare.{comparison_from, comparison, status_if, most_line, IsStated}
 use Rattle.tpm_check.specs.Compare.{ReadsList, ReadsTooMuchList}
-use Rattle.tpm_check.specs.inner.Comparing.{Compares, line_behind, line_text, list_line, stated_behind, stated_text, status_behind}
+use Rattle.tpm_check.specs.inner.Comparing.{Compares, line_behind, line_text, list_line, stated_behind, stated_text}
 use Rattle.tpm_check.specs.inner.Told.{told}
 use Rattle.tpm_output.specs.declared.status.Status.TheVariants.{Done, Refused}
 use Rattle.tpm_output.specs.declared.status.Status.{Status}
@@ -32,9 +31,6 @@ use Rattle.tpm_output.proofs.LineReading.{stops_whatever}
 use Rattle.tpm_output.proofs.Tables.{position-map}
 
 -- ---- registers
-
-pub bank_lines-more : (value : Values) (bank : Alg) (n : ℕ) → bank_lines value bank (n + 1) ≡ bank_lines value bank n ++ register_line bank n (value bank n)
-bank_lines-more value bank n = let e : n + 1 ≡ suc n = omega arith in rw e refl
 
 -- the table has the numbers in decimal
 pub named-is : (word : List ℕ) → position (λ name. bytes_eq name.now word) REGISTERS ≡ register_named word
@@ -52,14 +48,10 @@ both_done : (status : Status) → both status Done ≡ status
 both_done Done = refl
 both_done Refused = refl
 
-both_twice : (status : Status) (same : Bool) (o : Option Status)
-    → option_map (both status) (option_map (both (status_if same)) o) ≡ option_map (both (status_behind status same)) o
-both_twice status true None = refl
-both_twice status true (Some other) = refl
-both_twice Done false None = refl
-both_twice Done false (Some other) = refl
-both_twice Refused false None = refl
-both_twice Refused false (Some other) = refl
+both_twice : (status next : Status) (o : Option Status) → option_map (both status) (option_map (both next) o) ≡ option_map (both (both status next)) o
+both_twice status next None = refl
+both_twice Done next (Some other) = refl
+both_twice Refused next (Some other) = refl
 
 both_none : (o : Option Status) → option_map (both Done) o ≡ o
 both_none None = refl
@@ -156,7 +148,8 @@ goes_line n c mid (States s) one others is said =
     let rest = comparison_from b (n + 1) (lines_under c.heading others) in
     ap (λ (text : List ℕ). behind text (from_here (n + 1) mid others)) said
     ∙ ap (λ (k : Comparing). behind (stated_text b s) (from_here (n + 1) k others)) (same_some mid (stated_behind c s) is)
-    ∙ ap (λ (o : Option Status). record { text = stated_text b s ++ rest.text; status = o }) (sym (both_twice c.status (is_value b.value s) rest.status))
+    ∙ ap (λ (o : Option Status). record { text = stated_text b s ++ rest.text; status = o })
+    (sym (both_twice c.status (status_if (is_value b.value s)) rest.status))
 goes_line n c mid (Heads heading) one others is said =
     ap (λ (text : List ℕ). behind text (from_here (n + 1) mid others)) said
     ∙ ap (λ (k : Comparing). behind [] (from_here (n + 1) k others)) (same_some mid (record c { heading = heading }) is)
@@ -235,24 +228,6 @@ any_from start (line ∷ others) new text (inl f) =
     ∙ ap (λ (b : Bool). b || rest (heading_behind c.heading l)) (any_line c f.0 l f.3.0)
     ∙ or-assoc c.any (is_statement l) (rest (heading_behind c.heading l))
 any_from start (line ∷ others) new text (inr f) = absurd (not_none new f.0)
-
--- ---- the end of a list
-
-module _ (json any : Bool) (c : Comparison) where
-  pub end_status : (before status : Status) → Some before ≡ c.status → status ≡ both before (status_if any)
-      → Some status ≡ (with_end json any c).status
-  end_status before status is same =
-      subst (λ (o : Option Status). Some status ≡ option_map (λ (s : Status). both s (status_if any)) o) is (ap Some same)
-
-  pub end_text : (before : Status) → Some before ≡ c.status → c.text ++ no_register_text json any ≡ (with_end json any c).text
-  end_text before is =
-      subst (λ (o : Option Status). c.text ++ no_register_text json any ≡ c.text ++ cond (is_some o) (no_register_text json any) []) is refl
-
-  pub none_status : None ≡ c.status → None ≡ (with_end json any c).status
-  none_status is = subst (λ (o : Option Status). None ≡ option_map (λ (s : Status). both s (status_if any)) o) is refl
-
-  pub none_text : None ≡ c.status → c.text ≡ (with_end json any c).text
-  none_text is = subst (λ (o : Option Status). c.text ≡ c.text ++ cond (is_some o) (no_register_text json any) []) is (sym (append-nil c.text))
 
 -- ---- the input
 

@@ -1,15 +1,13 @@
 -- What `check` prints of a quote as it was signed (this profile).
-use Rattle.std.specs.Prelude.{◌≡◌, ◌⊎◌, ℕ, Bool, true, false, if◌then◌else◌, List, [], ◌∷◌, ◌++◌, take, drop, codes}
-use Rattle.std.specs.Prelude.{Option, Some, None, option_map}
+use Rattle.std.specs.Prelude.{◌≡◌, ◌⊎◌, ℕ, Bool, true, false, ◌&&◌, if◌then◌else◌, List, [], ◌∷◌, ◌++◌, take, drop}
+use Rattle.std.specs.Prelude.{codes, Option, Some, None, option_map, unwrap_or}
 use Rattle.std.specs.Global.{Vec}
 use Rattle.std.specs.List.{list_any}
 use Rattle.std.specs.Str.{bytes_eq}
 use Rattle.std.specs.Fmt.{decimal}
 use Rattle.tpm_wire.specs.declared.refusal.Refusal.{Refusal}
 use Rattle.tpm_wire.specs.Path.{Spells, Fault}
-use Rattle.tpm_types.specs.declared.alg.Alg.{Alg}
 use Rattle.tpm_types.specs.declared.tpms.Selection.{Selection}
-use Rattle.tpm_types.specs.declared.attest.QuoteInfo.{QuoteInfo}
 use Rattle.tpm_types.specs.declared.attest.Attest.{Attest}
 use Rattle.tpm_types.specs.Alg.{alg_name}
 use Rattle.tpm_types.specs.Attest.{attest}
@@ -18,92 +16,98 @@ use Rattle.tpm_quote.specs.Attests.{first_not_selected, registers_of}
 use Rattle.tpm_options.specs.declared.CheckOptions.{CheckOptions}
 use Rattle.tpm_output.specs.declared.status.Status.TheVariants.{Done, Refused}
 use Rattle.tpm_output.specs.declared.status.Status.{Status}
+use Rattle.tpm_output.specs.Marks.{Mark, Number, Says as SaysOf, Word}
 use Rattle.tpm_output.specs.Status.{both}
+use Rattle.tpm_output.specs.Telling.{list, object, says}
 use Rattle.tpm_output.specs.Text.{line}
-use Rattle.tpm_output.specs.Json.{json_from}
-use Rattle.tpm_output.specs.Lines.{lines_from}
-use Rattle.tpm_output.specs.Members.{text_member}
 use Rattle.tpm_check.specs.AttestMarks.{marks_of_attest}
-use Rattle.tpm_check.specs.Check.{is_quote, quote_status}
-use Rattle.tpm_check.specs.CheckJson.{lacks_member, quote_word, refusal_text}
+use Rattle.tpm_check.specs.Check.{is_quote, mark_of_quote, verdict_word}
+use Rattle.tpm_check.specs.CheckJson.{refusal_text, rendered}
 use Rattle.tpm_check.specs.Compare.{Beside, Verdict, status_if}
+use Rattle.tpm_check.specs.declared.judged.Judged.{Judged}
+use Rattle.tpm_check.specs.declared.judged.Selected.TheVariants as selects
+use Rattle.tpm_check.specs.declared.judged.Selected.{Selected}
 
 -- ---- verdicts
-
--- what is said of what this word names: a line, or a member behind another
-abbrev pub said : (json : Bool) → (word says : List ℕ) → List ℕ
-said false word says = line (word ∷ says ∷ [])
-said true word says = text_member word says
-
-abbrev pub whether : (json : Bool) → List ℕ → Bool → Verdict
-whether json word true = record { status = Done; text = said json word (codes "matches") }
-whether json word false = record { status = Refused; text = said json word (codes "differs") }
-
--- qualifiedSigner beside the name of the key that has to have signed, where there is one
-abbrev pub on_signer : (json : Bool) → (wanted : Option (List ℕ)) → List ℕ → Verdict
-on_signer json None signer = record { status = Done; text = [] }
-on_signer json (Some wanted) signer = whether json (codes "signer") (bytes_eq signer wanted)
-
--- extraData beside the nonce that was sent, where there is one; else it has to be asked for that any will do
-abbrev pub on_nonce : (json any : Bool) → (sent : Option (List ℕ)) → List ℕ → Verdict
-on_nonce json any None nonce =
-    record { status = status_if any; text = said json (codes "nonce") (codes "not compared") }
-on_nonce json any (Some sent) nonce = whether json (codes "nonce") (bytes_eq nonce sent)
-
-unfoldable pub lacks_line : NotSelected → List ℕ
-lacks_line r = line (codes "selection" ∷ codes "lacks" ∷ alg_name r.bank ∷ decimal r.register ∷ [])
-
-abbrev pub lacks_text : (json : Bool) → NotSelected → List ℕ
-lacks_text false r = lacks_line r
-lacks_text true r = lacks_member r
-
-abbrev pub on_missing : (json : Bool) → Option NotSelected → Verdict
-on_missing json None = record { status = Done; text = said json (codes "selection") (codes "covers") }
-on_missing json (Some r) = record { status = Refused; text = lacks_text json r }
-
--- where nothing is required: it has to be asked for that any will do, and a quote that selects no register says nothing
--- of any
-abbrev pub on_registers : (json any : Bool) → List NotSelected → Verdict
-on_registers json any [] = record { status = Refused; text = said json (codes "selection") (codes "empty") }
-on_registers json any (r ∷ rs) =
-    record { status = status_if any; text = said json (codes "selection") (codes "not compared") }
-
-abbrev pub on_selection : (json any : Bool) → (required : Option (List Selection)) → List Selection → Verdict
-on_selection json any None quoted = on_registers json any (registers_of quoted)
-on_selection json any (Some required) quoted = on_missing json (first_not_selected quoted required)
-
--- the digest beside that of the registers
-abbrev pub on_quote : Beside → Option Alg → QuoteInfo → Verdict
-on_quote b hash quote = let same = is_quote b hash quote in
-    record { status = quote_status same; text = said b.json (codes "quote") (quote_word same) }
-
-abbrev pub behind : Verdict → Verdict → Verdict
-behind v w = record { status = both v.status w.status; text = v.text ++ w.text }
-
--- what the quote says: its lines, or a member of an object
-abbrev pub attest_told : (json : Bool) → Attest → List ℕ
-attest_told false a = lines_from false (marks_of_attest a)
-attest_told true a = codes "{" ++ json_from false (marks_of_attest a)
-
--- what closes an object
-abbrev pub close_text : (json : Bool) → List ℕ
-close_text false = []
-close_text true = codes "}\n"
-
-abbrev pub closed : (json : Bool) → Verdict → Verdict
-closed json v = record { status = v.status; text = v.text ++ close_text json }
 
 -- bytes that are given
 abbrev pub given : Option (Vec ℕ) → Option (List ℕ)
 given bytes = option_map (λ v. v.items) bytes
 
--- what the quote says, and the verdicts on its signer, its nonce, its selection and its digest: lines, or one object
+-- all that is required, or else the first register of it that is not selected
+abbrev pub covering : Option NotSelected → Selected
+covering None = selects.Covers
+covering (Some r) = selects.Lacks r
+
+-- Where nothing is required, a quote that selects no register says nothing of any.
+abbrev pub of_any : List NotSelected → Selected
+of_any [] = selects.Empty
+of_any (r ∷ rs) = selects.NotCompared
+
+abbrev pub selected : (required : Option (List Selection)) → List Selection → Selected
+selected None quoted = of_any (registers_of quoted)
+selected (Some required) quoted = covering (first_not_selected quoted required)
+
+-- qualifiedSigner beside the name of the key that has to have signed, extraData beside the nonce that was sent, and the
+-- digest beside that of the registers; none where there is nothing to compare with
+abbrev pub judged : Beside → CheckOptions → Attest → Judged
+judged b o a = record {
+  signer = option_map (bytes_eq a.signer) (given o.signer);
+  nonce = option_map (bytes_eq a.extra_data) (given o.nonce);
+  selection = selected o.required a.quote.selections;
+  quote = is_quote b o.hash a.quote;
+}
+
+abbrev pub is_done : (any : Bool) → Selected → Bool
+is_done any selects.Covers = true
+is_done any (selects.Lacks r) = false
+is_done any selects.Empty = false
+is_done any selects.NotCompared = any
+
+-- The signer is the one asked for, if one is; so are the nonce and the selection, or it was asked for that any will do;
+-- and the digest is that of the registers.
+abbrev pub is_asked_for : CheckOptions → Judged → Bool
+is_asked_for o j =
+    unwrap_or j.signer true
+    && (unwrap_or j.nonce o.any_nonce && (is_done o.any_selection j.selection && unwrap_or j.quote false))
+
+-- ---- what is told
+
+abbrev pub marks_of_signer : Option Bool → List Mark
+marks_of_signer None = []
+marks_of_signer (Some same) = says (codes "signer") (Word (verdict_word (Some same) (codes "not compared"))) ∷ []
+
+-- in a line as further words, and else as an object of its own
+abbrev pub marks_of_lacks : (json : Bool) → (bank : List ℕ) → ℕ → List Mark
+marks_of_lacks false bank register =
+    list (codes "selection") (
+    SaysOf None (Word (codes "lacks")) ∷ SaysOf None (Word bank) ∷ SaysOf None (Number register) ∷ [])
+marks_of_lacks true bank register =
+    says (codes "selection") (Word (codes "lacks"))
+    ∷ object (codes "lacks") (says (codes "bank") (Word bank) ∷ says (codes "register") (Number register) ∷ [])
+
+abbrev pub marks_of_selected : (json : Bool) → Selected → List Mark
+marks_of_selected json (selects.Lacks r) = marks_of_lacks json (alg_name r.bank) r.register
+marks_of_selected json selects.Covers = says (codes "selection") (Word (codes "covers")) ∷ []
+marks_of_selected json selects.Empty = says (codes "selection") (Word (codes "empty")) ∷ []
+marks_of_selected json selects.NotCompared = says (codes "selection") (Word (codes "not compared")) ∷ []
+
+-- what the quote says, and the verdicts on its signer, its nonce, its selection and its digest
+abbrev pub marks_of_judged : (json : Bool) → Attest → Judged → List Mark
+marks_of_judged json a j =
+    marks_of_attest a ++ (marks_of_signer j.signer
+    ++ (says (codes "nonce") (Word (verdict_word j.nonce (codes "not compared")))
+    ∷ (marks_of_selected json j.selection ++ mark_of_quote j.quote ∷ [])))
+
 abbrev pub on_attest : Beside → CheckOptions → Attest → Verdict
-on_attest b o a =
-    closed b.json
-    (behind (record { status = Done; text = attest_told b.json a }) (behind (on_signer b.json (given o.signer) a.signer)
-    (behind (on_nonce b.json o.any_nonce (given o.nonce) a.extra_data)
-    (behind (on_selection b.json o.any_selection o.required a.quote.selections) (on_quote b o.hash a.quote)))))
+on_attest b o a = let j = judged b o a in
+    record { status = status_if (is_asked_for o j); text = rendered b.json (marks_of_judged b.json a j) }
+
+unfoldable pub lacks_line : NotSelected → List ℕ
+lacks_line r = line (codes "selection" ∷ codes "lacks" ∷ alg_name r.bank ∷ decimal r.register ∷ [])
+
+abbrev pub behind : Verdict → Verdict → Verdict
+behind v w = record { status = both v.status w.status; text = v.text ++ w.text }
 
 -- ---- what is printed
 

@@ -1,6 +1,7 @@
 -- What `check` prints of a log, with all that it is compared with (this profile).
 use Rattle.std.specs.Prelude.{◌≡◌, ℕ, Bool, true, false, ◌||◌, List, [], ◌++◌, Option, is_some, Result, Ok}
 use Rattle.std.specs.Prelude.{Err, MatchOption}
+use Rattle.tpm_types.specs.Alg.{all_algs}
 use Rattle.tpm_pcr.specs.Registers.{Registers, value_in}
 use Rattle.tpm_log.specs.declared.fault.LogFault.{LogFault}
 use Rattle.tpm_log.specs.Takes.{IsOfBytes}
@@ -24,7 +25,7 @@ ChecksSigned b a v =
 -- the registers, where they are compared with nothing
 abbrev pub registers_if : Beside → (others : Bool) → List ℕ
 registers_if b true = []
-registers_if b false = registers_told b.json b.value
+registers_if b false = registers_told b.json b.value all_algs
 
 -- What the information of a quote says comes last, where there is one, and else the registers, beside nothing else.
 abbrev pub ChecksValues : Beside → CheckOptions → (others : Bool) → Verdict → Type 0

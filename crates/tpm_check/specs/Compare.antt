@@ -1,12 +1,11 @@
 -- What `check` prints of registers and of a list of them (this profile).
-use Rattle.std.specs.Prelude.{◌≡◌, ◌≢◌, ◌⊎◌, ℕ, zero, suc, ◌+◌, ◌≤◌, ◌==◌, nat_lt, Bool, true, false, List, [], ◌∷◌}
-use Rattle.std.specs.Prelude.{◌++◌, length, map, position, find, flat_map, codes, Option, Some, None, option_map}
+use Rattle.std.specs.Prelude.{◌≡◌, ◌≢◌, ◌⊎◌, ℕ, ◌+◌, ◌≤◌, ◌==◌, nat_lt, Bool, true, false, List, [], ◌∷◌}
+use Rattle.std.specs.Prelude.{◌++◌, length, map, position, find, codes, Option, Some, None, option_map}
 use Rattle.std.specs.Prelude.{if◌then◌else◌, ◌&&◌, take, drop, is_some}
 use Rattle.std.specs.Str.{bytes_eq}
 use Rattle.std.specs.Fmt.{decimal}
 use Rattle.std.specs.List.{AllByRecursion, before_first, after_first, list_any, range_with_len}
 use Rattle.std.specs.Io.KnownBytes.{Consumes, IsAtEnd}
-use Rattle.hex.specs.Hex.{encode_lower}
 use Rattle.tpm_types.specs.declared.alg.Alg.{Alg}
 use Rattle.tpm_types.specs.Alg.{all_algs, digest_len}
 use Rattle.tpm_check.specs.declared.list_lines.Heading.TheVariants.{NoBank, Bank, OtherBank}
@@ -18,23 +17,9 @@ use Rattle.tpm_output.specs.Text.{bytes_in, line}
 use Rattle.tpm_types.specs.Alg.{alg_name}
 use Rattle.tpm_output.specs.InputLines.{lines_of, HasNoFeed, AreEnded, most_bytes, most_piece}
 
--- ---- registers
-
 -- the values of registers, by bank and number
 abbrev pub Values : Type 0
 Values = Alg → ℕ → List ℕ
-
-unfoldable pub register_line : Alg → ℕ → List ℕ → List ℕ
-register_line bank register value = line (alg_name bank ∷ decimal register ∷ encode_lower value ∷ [])
-
--- the lines of a bank's first registers, so many of them
-abbrev pub bank_lines : Values → Alg → ℕ → List ℕ
-bank_lines value bank zero = []
-bank_lines value bank (suc n) = bank_lines value bank n ++ register_line bank n (value bank n)
-
--- the lines of all registers
-abbrev pub registers_text : Values → List ℕ
-registers_text value = flat_map (λ bank. bank_lines value bank 24) all_algs
 
 -- ---- a line that states a register as its line is printed
 
@@ -217,17 +202,13 @@ pub record Comparison : Type 0 where
 abbrev pub is_value : Values → Stated → Bool
 is_value value s = bytes_eq (value s.bank s.register) s.value
 
--- a line, and what is printed of those behind it
-abbrev pub with_line : (json same : Bool) → Stated → Comparison → Comparison
-with_line json same s rest =
-    record {
-      text = compared_text json same s.bank s.register ++ rest.text;
-      status = option_map (both (status_if same)) rest.status;
-    }
-
 -- of the line of this number, and those behind it
 abbrev pub comparison_of : Beside → ℕ → ListLine → Comparison → Comparison
-comparison_of b n (States s) rest = with_line b.json (is_value b.value s) s rest
+comparison_of b n (States s) rest = let same = is_value b.value s in
+    record {
+      text = compared_text b.json same s.bank s.register ++ rest.text;
+      status = option_map (both (status_if same)) rest.status;
+    }
 comparison_of b n (Heads heading) rest = rest
 comparison_of b n Passes rest = rest
 comparison_of b n Wrong rest = record { text = not_a_register_text b.json n; status = None }
@@ -256,17 +237,14 @@ no_register_text json true = []
 no_register_text false false = line (codes "no" ∷ codes "register" ∷ [])
 no_register_text true false = codes "{\"fault\":\"no register\"}\n"
 
-abbrev pub with_end : (json any : Bool) → Comparison → Comparison
-with_end json any c =
-    record {
-      text = c.text ++ (if is_some c.status then no_register_text json any else []);
-      status = option_map (λ status. both status (status_if any)) c.status;
-    }
-
 -- of a whole list, and of none, which says nothing
 abbrev pub compared : Beside → Option (List ℕ) → Comparison
 compared b None = record { text = []; status = Some Done }
-compared b (Some bytes) = with_end b.json (states_any bytes) (comparison b bytes)
+compared b (Some bytes) = let c = comparison b bytes in let any = states_any bytes in
+    record {
+      text = c.text ++ (if is_some c.status then no_register_text b.json any else []);
+      status = option_map (λ status. both status (status_if any)) c.status;
+    }
 
 -- ---- what is read of a list
 

@@ -1,7 +1,6 @@
 -- What `check --listed` prints of a log (this profile).
-use Rattle.std.specs.Prelude.{◌≡◌, ◌⊎◌, ℕ, Bool, true, false, List, ◌++◌, codes, flat_map, map, Ok}
+use Rattle.std.specs.Prelude.{◌≡◌, ◌⊎◌, ℕ, Bool, List, ◌++◌, Ok}
 use Rattle.tpm_wire.specs.Path.{Spells}
-use Rattle.tpm_types.specs.declared.alg.Alg.{Alg}
 use Rattle.tpm_pcr.specs.Registers.{Registers, value_in}
 use Rattle.tpm_log.specs.declared.algorithm_size.AlgorithmSize.{AlgorithmSize}
 use Rattle.tpm_log.specs.Changes.{AreAfter}
@@ -9,15 +8,8 @@ use Rattle.tpm_log.specs.Records.{LogRecord, log}
 use Rattle.tpm_log.specs.Replays.{Replays}
 use Rattle.tpm_output.specs.declared.status.Status.TheVariants.{Done}
 use Rattle.tpm_output.specs.declared.status.Status.{Status}
-use Rattle.tpm_output.specs.Text.{commas}
-use Rattle.tpm_check.specs.CheckJson.{bank_member, ok_text}
-use Rattle.tpm_check.specs.Compare.{Values, bank_lines}
+use Rattle.tpm_check.specs.CheckJson.{ok_text, registers_told}
 use Rattle.tpm_check.specs.SecureBootLines.{TellsFault, listed_banks}
-
--- the registers of these banks: their lines, or one object
-abbrev pub banks_told : (json : Bool) → Values → List Alg → List ℕ
-banks_told false value banks = flat_map (λ bank. bank_lines value bank 24) banks
-banks_told true value banks = codes "{\"registers\":{" ++ (commas (map (bank_member value) banks) ++ codes "}}\n")
 
 -- That is printed of the registers that a log gives in the banks that its header lists, and else its fault. Behind that
 -- stands the status, where it is told as objects.
@@ -27,5 +19,5 @@ TellsListed json bytes status text =
     × Spells log (hashes, records) bytes
     × Replays AreAfter bytes (Ok found)
     × (status ≡ Done)
-    × (text ≡ banks_told json (value_in found.banks) (listed_banks hashes) ++ ok_text json Done))
+    × (text ≡ registers_told json (value_in found.banks) (listed_banks hashes) ++ ok_text json Done))
     ⊎ TellsFault json bytes status text

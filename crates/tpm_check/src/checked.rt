@@ -4,7 +4,7 @@ ghost use Rattle.std.specs.Prelude.{◌≡◌, ◌||◌, ◌++◌, ℕ, List, Op
 ghost use Rattle.std.specs.Prelude.{string_bytes};
 ghost use Rattle.std.specs.Io.KnownBytes.{Appends};
 ghost use Rattle.tpm_pcr.specs.Registers.{Registers as RegistersValue};
-ghost use Rattle.tpm_output.specs.declared.status.Status.TheVariants.{Done, Refused};
+ghost use Rattle.tpm_output.specs.declared.status.Status.TheVariants.{Refused};
 ghost use Rattle.tpm_output.specs.declared.fault.ToolFault.TheVariants.{InputTooLong, Read};
 ghost use Rattle.tpm_output.specs.Faults.{FailsByMemoryOrWrite};
 ghost use Rattle.tpm_output.specs.InputLines.{CountsRead};
@@ -15,7 +15,6 @@ ghost use Rattle.tpm_check.specs.CheckJson.{ok_text};
 ghost use Rattle.tpm_check.specs.Check.{CountsReads, FailsLast, ReadsIfList, ReadsTooMuchIfList};
 ghost use Rattle.tpm_check.specs.Check.{failures_of, has_stopped};
 ghost use Rattle.tpm_check.specs.Checked.{ChecksAll, ChecksLog, ChecksSigned, ChecksToEnd, ChecksValues};
-ghost use Rattle.tpm_check.specs.Checked.{registers_if};
 ghost use Rattle.tpm_events.specs.LogFaults.{fault_text};
 ghost use Rattle.tpm_log.specs.Changes.{AreAfter};
 ghost use Rattle.tpm_log.specs.Replays.{ReplaysFrom, ReadsFrom};
@@ -24,10 +23,12 @@ ghost use Rattle.tpm_wire.specs.Sources.{IsWhereItFailed};
 
 use crate::asked::Asked;
 use crate::beside::Beside;
-use crate::check_json::{ok_text, push_registers_told};
+use crate::check_json::ok_text;
 use crate::compared::check_list;
 use crate::judged::answer_to_attest;
 use crate::quoted::answer_to_quote;
+use crate::registers_told::ToldRegisters;
+use crate::renderings::rendered;
 use std::alloc::{AllocError, Global};
 use std::io::Write;
 use tpm_events::faults::print_fault;
@@ -37,6 +38,7 @@ use tpm_output::answer::Answer;
 use tpm_output::fault::ToolFault;
 use tpm_output::status::Status;
 use tpm_output::written::put;
+use tpm_types::Alg;
 use tpm_wire::Source;
 
 /// Prints the fault of a log, and the status where it is told.
@@ -80,19 +82,8 @@ fn answer_to_signed(
     }
 }
 
-// The registers themselves, if they stand beside nothing else.
-fn answer_alone(alloc: Global, found: &Beside<'_>, others: bool) -> Result<Answer, AllocError>
-    ensures { IfOk result (λ a. (a.status ≡ Done)
-        × (string_bytes a.text ≡ registers_if (told found.now) others)) }
-{
-    let mut text = String::new(alloc);
-    if !others {
-        push_registers_told(alloc, &mut text, found)?;
-    }
-    Ok(Answer::done(text))
-}
-
-// What the information of a quote says of registers, where there is one, and else those themselves.
+// What the information of a quote says of registers, where there is one, and else those themselves, if they stand
+// beside nothing else.
 fn answer_last(
     alloc: Global,
     found: &Beside<'_>,
@@ -102,9 +93,18 @@ fn answer_last(
     ensures { IfOk result (λ a. ChecksValues (told found.now) options.now others
         (printed a.status (string_bytes a.text))) }
 {
+    let json = found.json;
     match options.quote {
         Some(quote) => answer_to_quote(alloc, found, options.hash, quote),
-        None => answer_alone(alloc, found, others),
+        None if others => Ok(Answer::done(String::new(alloc))),
+        None => {
+            let registers = ToldRegisters {
+                found: found.registers,
+                banks: &Alg::ALL,
+                json,
+            };
+            rendered(alloc, json, Status::Done, &registers)
+        }
     }
 }
 

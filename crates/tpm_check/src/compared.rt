@@ -1,6 +1,6 @@
 //! A list of registers in the subcommand `check`.
 
-ghost use Rattle.std.specs.Prelude.{◌≡◌, ◌++◌, ℕ, List, Option, Some, IfOk, IfSome, OnOk, IsErrOf};
+ghost use Rattle.std.specs.Prelude.{◌≡◌, ℕ, List, Option, Some, IfOk, IfSome, OnOk, IsErrOf};
 ghost use Rattle.std.specs.Prelude.{is_some, option_map, string_bytes};
 ghost use Rattle.std.specs.Io.KnownBytes.{Appends};
 ghost use Rattle.tpm_wire.specs.Sources.{IsWhereItFailed};
@@ -10,13 +10,13 @@ ghost use Rattle.tpm_output.specs.InputLines.{AddedTo, CountsRead};
 ghost use Rattle.tpm_output.specs.LineSinks.{some_if};
 ghost use Rattle.tpm_output.specs.Status.{both};
 ghost use Rattle.tpm_check.specs.Check.{ReadsIfList, ReadsTooMuchIfList, failures_of, has_stopped};
-ghost use Rattle.tpm_check.specs.Compare.{compared, no_register_text, states_any, status_if};
-ghost use Rattle.tpm_check.specs.Compare.{comparison, compared_text, is_value, line_under, ReadsList, ReadsTooMuchList};
+ghost use Rattle.tpm_check.specs.Compare.{compared, comparison, line_under, no_register_text, states_any, status_if};
+ghost use Rattle.tpm_check.specs.Compare.{ReadsList, ReadsTooMuchList};
 ghost use Rattle.tpm_check.specs.inner.Comparing.{line_behind, line_text, stated_as, stated_behind, stated_text};
-ghost use Rattle.tpm_check.specs.inner.Comparing.{status_behind};
 ghost use Rattle.tpm_check.specs.inner.Told.{told};
 
 use crate::beside::Beside;
+use crate::check_json::status_if;
 use crate::list_lines::{Heading, ListLine, MOST_LINE, read_line};
 use crate::register_text::{push_compared, push_not_a_register};
 use crate::stated::Stated;
@@ -42,33 +42,6 @@ struct Comparing<'a> {
     any: bool,
 }
 
-// Adds the line that says whether a register has the value that was stated, and answers whether it has.
-fn compare(text: &mut String, found: &Beside<'_>, stated: &Stated) -> Result<bool, AllocError>
-    ensures { IfOk result (λ same. (same
-        ≡ is_value (told found.now).value (stated_as stated.now))
-        × (string_bytes text.new
-        ≡ string_bytes text.old
-        ++ compared_text found.now.json same stated.now.bank stated.now.register)) }
-{
-    let value = found.registers.read(stated.bank, stated.register);
-    let same = value.as_slice() == stated.value.as_slice();
-    push_compared(
-        text,
-        found.json,
-        same,
-        stated.bank,
-        stated.register.number(),
-    )?;
-    Ok(same)
-}
-
-// The status behind a line whose register has the value, or has not.
-fn status_behind(status: Status, same: bool) -> Status
-    ensures { result ≡ status_behind status same }
-{
-    if same { status } else { Status::Refused }
-}
-
 impl Comparing<'_> {
     // Compares the register that a line states.
     fn compare_stated(&mut self, stated: &Stated, text: &mut String) -> Pushed
@@ -76,8 +49,17 @@ impl Comparing<'_> {
             × AddedTo (string_bytes text.old) (string_bytes text.new)
             (stated_text (told self.old.found.now) (stated_as stated.now))) }
     {
-        let same = compare(text, self.found, stated)?;
-        self.status = status_behind(self.status, same);
+        let found = self.found;
+        let value = found.registers.read(stated.bank, stated.register);
+        let same = value.as_slice() == stated.value.as_slice();
+        push_compared(
+            text,
+            found.json,
+            same,
+            stated.bank,
+            stated.register.number(),
+        )?;
+        self.status = self.status.both(status_if(same));
         self.any = true;
         Ok(())
     }
@@ -169,7 +151,7 @@ impl Comparing<'_> {
         ensures err { FailsByMemoryOrWrite result }
     {
         put(out, no_register_text(json, self.any))?;
-        Ok(status_behind(self.status, self.any))
+        Ok(self.status.both(status_if(self.any)))
     }
 }
 

@@ -1,111 +1,187 @@
 //! A quote as it was signed, in the subcommand `check`.
 
-ghost use Rattle.std.specs.Prelude.{◌≡◌, ◌++◌, false, IfOk, OnOk, option_map, string_bytes};
+ghost use Rattle.std.specs.Prelude.{◌≡◌, ◌++◌, IfOk, OnOk, option_map, string_bytes};
 ghost use Rattle.std.specs.Str.{bytes_eq};
-ghost use Rattle.tpm_quote.specs.Attests.{registers_of};
-ghost use Rattle.tpm_check.specs.CheckAttest.{ChecksAttest, Says, attest_told, close_text, given, hint};
-ghost use Rattle.tpm_check.specs.inner.CheckAttest.{Adds};
-ghost use Rattle.tpm_check.specs.CheckAttest.{is_signature, is_sized, lacks_line, lacks_text};
-ghost use Rattle.tpm_check.specs.CheckAttest.{on_attest, on_missing, on_nonce, on_quote, on_registers};
-ghost use Rattle.tpm_check.specs.CheckAttest.{on_selection, on_signer, said, whether};
-ghost use Rattle.tpm_check.specs.CheckJson.{quote_word};
-ghost use Rattle.tpm_check.specs.Compare.{printed, status_if};
+ghost use Rattle.tpm_output.specs.Telling.{told as told_by};
+ghost use Rattle.tpm_check.specs.CheckAttest.{ChecksAttest, given, hint, is_asked_for, is_done};
+ghost use Rattle.tpm_check.specs.CheckAttest.{is_signature, is_sized, judged, lacks_line, marks_of_judged};
+ghost use Rattle.tpm_check.specs.CheckAttest.{marks_of_lacks, marks_of_selected, marks_of_signer, selected};
+ghost use Rattle.tpm_check.specs.Compare.{printed};
 ghost use Rattle.tpm_check.specs.inner.Told.{told};
 
 use crate::beside::Beside;
-use crate::check_json::refusal_answer;
-use crate::lacks::push_lacks_member;
-use crate::quoted::{is_quote, quote_status};
-use crate::signed_told::ToldAttest;
+use crate::check_json::{refusal_answer, status_if};
+use crate::quoted::{is_quote, tell_quote, verdict_word};
+use crate::renderings::rendered;
+use crate::signed_told::tell_attest;
 use std::alloc::{AllocError, Global};
 use tpm_options::CheckOptions;
 use tpm_output::answer::Answer;
-use tpm_output::members::push_text_member;
-use tpm_output::status::Status;
-use tpm_output::tell::{push_json, push_lines};
+use tpm_output::mark::{Mark, Shape, Value};
+use tpm_output::tell::Tell;
+use tpm_output::teller::{Teller, Told, tell_all, tell_word};
 use tpm_output::text::Pushed;
-use tpm_quote::{NotSelected, decode_attest, first_not_selected, nonce_matches, selects_none};
-use tpm_types::{Alg, Attest, QuoteInfo, Selections};
+use tpm_quote::{NotSelected, decode_attest, first_not_selected, selects_none};
+use tpm_types::{Attest, Selections};
 
-// Adds the line of what this word names.
-fn push_said_line(text: &mut String, word: &str, says: &str) -> Pushed
-    ensures { OnOk result (string_bytes text.new
-        ≡ string_bytes text.old ++ said false word.now says.now) }
-{
-    writeln!(text, "{word} {says}")
+// ---- verdicts
+
+// What a quote selects, beside what is required.
+#[derive(Clone, Copy)]
+enum Selected {
+    // All that is required.
+    Covers,
+    // Not this, the first register that is required and not selected.
+    Lacks(NotSelected),
+    // Nothing is required, and no register is selected.
+    Empty,
+    // Nothing is required.
+    NotCompared,
 }
 
-// Adds what is said of what this word names, in a line or as a member.
-fn push_said(text: &mut String, json: bool, word: &str, says: &str) -> Pushed
-    ensures { OnOk result (string_bytes text.new
-        ≡ string_bytes text.old ++ said json word.now says.now) }
-{
-    if json {
-        push_text_member(text, word, says)
-    } else {
-        push_said_line(text, word, says)
+impl Selected {
+    fn of(required: &Option<Selections>, quoted: &Selections) -> Selected
+        ensures { result ≡ selected required.now quoted.now }
+    {
+        match required {
+            Some(required) => match first_not_selected(quoted, required) {
+                Some(missing) => Selected::Lacks(missing),
+                None => Selected::Covers,
+            },
+            None if selects_none(quoted) => Selected::Empty,
+            None => Selected::NotCompared,
+        }
     }
-}
 
-// Adds whether what this word names is the same, and answers its status.
-fn push_whether(text: &mut String, json: bool, word: &str, same: bool) -> Result<Status, AllocError>
-    ensures { IfOk result (λ status. Adds (whether json word.now same) status
-        (string_bytes text.old) (string_bytes text.new)) }
-{
-    if same {
-        push_said(text, json, word, "matches")?;
-        Ok(Status::Done)
-    } else {
-        push_said(text, json, word, "differs")?;
-        Ok(Status::Refused)
-    }
-}
-
-fn is_nonce(attest: &Attest<'_>, sent: &[u8]) -> bool
-    ensures { result ≡ bytes_eq attest.now.extra_data sent.now }
-{
-    nonce_matches(attest, sent)
-}
-
-// The status of what is not compared: `Done` where it was asked for that any will do.
-fn status_if(any: bool) -> Status
-    ensures { result ≡ status_if any }
-{
-    if any { Status::Done } else { Status::Refused }
-}
-
-fn push_nonce(
-    text: &mut String,
-    json: bool,
-    options: &CheckOptions<'_>,
-    attest: &Attest<'_>,
-) -> Result<Status, AllocError>
-    ensures { IfOk result (λ status. Adds
-        (on_nonce json options.now.any_nonce (given options.now.nonce) attest.now.extra_data) status
-        (string_bytes text.old) (string_bytes text.new)) }
-{
-    match &options.nonce {
-        Some(sent) => push_whether(text, json, "nonce", is_nonce(attest, sent.as_slice())),
-        None => {
-            push_said(text, json, "nonce", "not compared")?;
-            Ok(status_if(options.any_nonce))
+    // Whether this is what was asked for, where any selection may be.
+    fn is_done(self, any: bool) -> bool
+        ensures { result ≡ is_done any self }
+    {
+        match self {
+            Selected::Covers => true,
+            Selected::Lacks(_) | Selected::Empty => false,
+            Selected::NotCompared => any,
         }
     }
 }
 
-fn push_signer(
-    text: &mut String,
-    json: bool,
-    options: &CheckOptions<'_>,
-    signer: &[u8],
-) -> Result<Status, AllocError>
-    ensures { IfOk result (λ status. Adds
-        (on_signer json (given options.now.signer) signer.now) status
-        (string_bytes text.old) (string_bytes text.new)) }
+// Whether bytes are those that are asked for. None where none are.
+fn is_given(asked: &Option<Vec<u8>>, bytes: &[u8]) -> Option<bool>
+    ensures { result ≡ option_map (bytes_eq bytes.now) (given asked.now) }
 {
-    match &options.signer {
-        Some(wanted) => push_whether(text, json, "signer", signer == wanted.as_slice()),
-        None => Ok(Status::Done),
+    match asked {
+        Some(asked) => Some(bytes == asked.as_slice()),
+        None => None,
+    }
+}
+
+// What a quote as it was signed is beside what is asked for, and beside registers. None is for what isn't compared.
+#[derive(Clone, Copy)]
+struct Judged {
+    signer: Option<bool>,
+    nonce: Option<bool>,
+    selection: Selected,
+    quote: Option<bool>,
+}
+
+impl Judged {
+    fn of(found: &Beside<'_>, options: &CheckOptions<'_>, attest: &Attest<'_>) -> Judged
+        ensures { result ≡ judged (told found.now) options.now attest.now }
+    {
+        Judged {
+            signer: is_given(&options.signer, attest.signer.as_slice()),
+            nonce: is_given(&options.nonce, attest.extra_data.as_slice()),
+            selection: Selected::of(&options.required, &attest.quote.selections),
+            quote: is_quote(found, &attest.quote, options.hash),
+        }
+    }
+
+    // Whether it is the quote that was asked for.
+    fn is_asked_for(&self, options: &CheckOptions<'_>) -> bool
+        ensures { result ≡ is_asked_for options.now self.now }
+    {
+        self.signer.unwrap_or(true)
+            && self.nonce.unwrap_or(options.any_nonce)
+            && self.selection.is_done(options.any_selection)
+            && self.quote.unwrap_or(false)
+    }
+}
+
+// ---- what is told
+
+// Tells the verdict on the signer, where one is asked for.
+fn tell_signer<T: Teller>(out: &mut T, same: Option<bool>) -> Told
+    ensures { OnOk result (T.state out.new
+        ≡ told_by T.tells (T.state out.old) (marks_of_signer same)) }
+{
+    match same {
+        Some(_) => tell_word(out, "signer", verdict_word(same, "not compared")),
+        None => Ok(()),
+    }
+}
+
+// Tells a register that is lacking.
+fn tell_lacks<T: Teller>(out: &mut T, json: bool, bank: &str, register: u32) -> Told
+    ensures { OnOk result (T.state out.new
+        ≡ told_by T.tells (T.state out.old) (marks_of_lacks json bank.now register)) }
+{
+    if json {
+        tell_all(
+            out,
+            &[
+                Mark::Says(Some("selection"), Value::Word("lacks")),
+                Mark::Opens(Some("lacks"), Shape::Object),
+                Mark::Says(Some("bank"), Value::Word(bank)),
+                Mark::Says(Some("register"), Value::Number(u64::from(register))),
+                Mark::Closes(Shape::Object),
+            ],
+        )
+    } else {
+        tell_all(
+            out,
+            &[
+                Mark::Opens(Some("selection"), Shape::List),
+                Mark::Says(None, Value::Word("lacks")),
+                Mark::Says(None, Value::Word(bank)),
+                Mark::Says(None, Value::Number(u64::from(register))),
+                Mark::Closes(Shape::List),
+            ],
+        )
+    }
+}
+
+fn tell_selected<T: Teller>(out: &mut T, json: bool, selected: Selected) -> Told
+    ensures { OnOk result (T.state out.new
+        ≡ told_by T.tells (T.state out.old) (marks_of_selected json selected)) }
+{
+    match selected {
+        Selected::Lacks(r) => tell_lacks(out, json, r.bank.name(), r.register.number()),
+        Selected::Covers => tell_word(out, "selection", "covers"),
+        Selected::Empty => tell_word(out, "selection", "empty"),
+        Selected::NotCompared => tell_word(out, "selection", "not compared"),
+    }
+}
+
+// What a quote as it was signed says, and the verdicts.
+#[derive(Clone, Copy)]
+struct ToldJudged<'a, 'b> {
+    attest: &'b Attest<'a>,
+    judged: Judged,
+    // Whether which register is lacking is an object of its own. Else it is further words.
+    json: bool,
+}
+
+impl<'a, 'b> Tell for ToldJudged<'a, 'b> {
+    ghost marks = { λ t. marks_of_judged t.json t.attest.now t.judged };
+
+    #[tactic(auto, using(tpm_output::proofs::Telling::told_both))]
+    fn tell<T: Teller>(&self, out: &mut T) -> Told {
+        let judged = &self.judged;
+        tell_attest(out, self.attest)?;
+        tell_signer(out, judged.signer)?;
+        tell_word(out, "nonce", verdict_word(judged.nonce, "not compared"))?;
+        tell_selected(out, self.json, judged.selection)?;
+        tell_quote(out, judged.quote)
     }
 }
 
@@ -119,140 +195,7 @@ pub(crate) fn push_lacks(text: &mut String, missing: NotSelected) -> Pushed
     writeln!(text, "selection lacks {bank} {register}")
 }
 
-// Adds a register that is lacking, in a line or as members.
-fn push_lacks_as(text: &mut String, json: bool, missing: NotSelected) -> Pushed
-    ensures { OnOk result (string_bytes text.new
-        ≡ string_bytes text.old ++ lacks_text json missing) }
-{
-    if json {
-        push_lacks_member(text, missing)
-    } else {
-        push_lacks(text, missing)
-    }
-}
-
-fn push_missing(
-    text: &mut String,
-    json: bool,
-    missing: Option<NotSelected>,
-) -> Result<Status, AllocError>
-    ensures { IfOk result (λ status. Adds (on_missing json missing) status (string_bytes text.old)
-        (string_bytes text.new)) }
-{
-    match missing {
-        Some(missing) => {
-            push_lacks_as(text, json, missing)?;
-            Ok(Status::Refused)
-        }
-        None => {
-            push_said(text, json, "selection", "covers")?;
-            Ok(Status::Done)
-        }
-    }
-}
-
-// Adds whether a register is selected where none is required, and answers the status of that.
-fn push_any(
-    text: &mut String,
-    json: bool,
-    any: bool,
-    quoted: &Selections,
-) -> Result<Status, AllocError>
-    ensures { IfOk result (λ status. Adds (on_registers json any (registers_of quoted.now)) status
-        (string_bytes text.old) (string_bytes text.new)) }
-{
-    if selects_none(quoted) {
-        push_said(text, json, "selection", "empty")?;
-        Ok(Status::Refused)
-    } else {
-        push_said(text, json, "selection", "not compared")?;
-        Ok(status_if(any))
-    }
-}
-
-fn push_selection(
-    text: &mut String,
-    json: bool,
-    options: &CheckOptions<'_>,
-    quoted: &Selections,
-) -> Result<Status, AllocError>
-    ensures { IfOk result (λ status. Adds
-        (on_selection json options.now.any_selection options.now.required quoted.now) status
-        (string_bytes text.old) (string_bytes text.new)) }
-{
-    match &options.required {
-        Some(required) => push_missing(text, json, first_not_selected(quoted, required)),
-        None => push_any(text, json, options.any_selection, quoted),
-    }
-}
-
-fn quote_word(same: Option<bool>) -> &'static str
-    ensures { result.now ≡ quote_word same }
-{
-    match same {
-        Some(true) => "matches",
-        Some(false) => "differs",
-        None => "of no hash",
-    }
-}
-
-fn push_quote(
-    text: &mut String,
-    found: &Beside<'_>,
-    quote: &QuoteInfo,
-    hash: Option<Alg>,
-) -> Result<Status, AllocError>
-    ensures { IfOk result (λ status. Adds
-        (on_quote (told found.now) hash quote.now) status (string_bytes text.old)
-        (string_bytes text.new)) }
-{
-    let same = is_quote(found, quote, hash);
-    push_said(text, found.json, "quote", quote_word(same))?;
-    Ok(quote_status(same))
-}
-
-// Adds what a quote says, in lines or as a member.
-fn push_attest_as(text: &mut String, json: bool, attest: &Attest<'_>) -> Pushed
-    ensures { OnOk result (string_bytes text.new
-        ≡ string_bytes text.old ++ attest_told json attest.now) }
-{
-    if json {
-        text.push_str("{")?;
-        push_json(text, false, &ToldAttest(attest))
-    } else {
-        push_lines(text, &ToldAttest(attest))
-    }
-}
-
-fn close_text(json: bool) -> &'static str
-    ensures { result.now ≡ close_text json }
-{
-    if json { "}\n" } else { "" }
-}
-
-// What is printed of a quote beside registers.
-fn answer_to_signed(
-    alloc: Global,
-    found: &Beside<'_>,
-    options: &CheckOptions<'_>,
-    attest: &Attest<'_>,
-) -> Result<Answer, AllocError>
-    ensures { IfOk result (λ a. Says (on_attest (told found.now) options.now attest.now)
-        a.status (string_bytes a.text)) }
-{
-    let json = found.json;
-    let mut text = String::new(alloc);
-    push_attest_as(&mut text, json, attest)?;
-    let signer = push_signer(&mut text, json, options, attest.signer.as_slice())?;
-    let nonce = push_nonce(&mut text, json, options, attest)?;
-    let selection = push_selection(&mut text, json, options, &attest.quote.selections)?;
-    let quote = push_quote(&mut text, found, &attest.quote, options.hash)?;
-    text.push_str(close_text(json))?;
-    Ok(Answer {
-        status: signer.both(nonce.both(selection.both(quote))),
-        text,
-    })
-}
+// ---- what is no quote
 
 // TPM_GENERATED_VALUE (Part 2, 6.2), with which a quote begins.
 const GENERATED: [u8; 4] = [0xFF, 0x54, 0x43, 0x47];
@@ -298,7 +241,17 @@ pub(crate) fn answer_to_attest(
         (printed a.status (string_bytes a.text))) }
 {
     match decode_attest(bytes) {
-        Ok(attest) => answer_to_signed(alloc, found, options, &attest),
+        Ok(attest) => {
+            let json = found.json;
+            let judged = Judged::of(found, options, &attest);
+            let status = status_if(judged.is_asked_for(options));
+            let told = ToldJudged {
+                attest: &attest,
+                judged,
+                json,
+            };
+            rendered(alloc, json, status, &told)
+        }
         Err(refusal) => refusal_answer(alloc, found.json, &refusal, hint(bytes)),
     }
 }

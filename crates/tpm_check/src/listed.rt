@@ -1,18 +1,18 @@
 //! The subcommand `check` of the registers in the banks that a log's header lists.
 
-ghost use Rattle.std.specs.Prelude.{◌≡◌, ◌++◌, ℕ, List, IfOk, OnOk, flat_map, string_bytes};
+ghost use Rattle.std.specs.Prelude.{◌≡◌, ◌++◌, ℕ, List, IfOk, string_bytes};
 ghost use Rattle.std.specs.Io.KnownBytes.{Appends};
 ghost use Rattle.tpm_pcr.specs.Registers.{value_in};
 ghost use Rattle.tpm_output.specs.declared.status.Status.TheVariants.{Done};
 ghost use Rattle.tpm_output.specs.Faults.{FailsByMemoryOrWrite};
-ghost use Rattle.tpm_check.specs.CheckJson.{ok_text};
-ghost use Rattle.tpm_check.specs.Compare.{bank_lines};
-ghost use Rattle.tpm_check.specs.Listed.{TellsListed, banks_told};
+ghost use Rattle.tpm_check.specs.CheckJson.{ok_text, registers_told};
+ghost use Rattle.tpm_check.specs.Listed.{TellsListed};
 ghost use Rattle.tpm_check.specs.SecureBootLines.{listed_banks};
 
-use crate::check_json::{ok_text, push_bank_members};
+use crate::check_json::ok_text;
 use crate::checked::tell_fault;
-use crate::register_text::push_bank;
+use crate::registers_told::ToldRegisters;
+use crate::renderings::rendered;
 use crate::replayed::replayed;
 use crate::told_secure_boot::listed_banks;
 use std::alloc::{AllocError, Global};
@@ -21,43 +21,7 @@ use tpm_log::Log;
 use tpm_output::answer::Answer;
 use tpm_output::fault::ToolFault;
 use tpm_output::status::Status;
-use tpm_output::text::Pushed;
 use tpm_pcr::Registers;
-use tpm_types::Alg;
-
-// Adds the lines of these banks.
-fn push_banks(alloc: Global, text: &mut String, found: &Registers, banks: &[Alg]) -> Pushed
-    ensures { OnOk result (string_bytes text.new ≡ string_bytes text.old
-        ++ flat_map (λ bank. bank_lines (value_in found.now.banks) bank 24) banks.now) }
-{
-    match banks {
-        [] => Ok(()),
-        [bank, others @ ..] => {
-            push_bank(alloc, text, found, *bank)?;
-            push_banks(alloc, text, found, others)
-        }
-    }
-}
-
-// Adds them, or their object.
-fn push_told(
-    alloc: Global,
-    text: &mut String,
-    json: bool,
-    found: &Registers,
-    banks: &[Alg],
-) -> Pushed
-    ensures { OnOk result (string_bytes text.new
-        ≡ string_bytes text.old ++ banks_told json (value_in found.now.banks) banks.now) }
-{
-    if json {
-        text.push_str("{\"registers\":{")?;
-        push_bank_members(alloc, text, found, banks)?;
-        text.push_str("}}\n")
-    } else {
-        push_banks(alloc, text, found, banks)
-    }
-}
 
 // What is printed of a log that gives these registers.
 fn answer_to_log(
@@ -67,12 +31,16 @@ fn answer_to_log(
     log: &Log<'_>,
 ) -> Result<Answer, AllocError>
     ensures { IfOk result (λ a. (a.status ≡ Done)
-        × (string_bytes a.text ≡ banks_told json (value_in found.now.banks)
+        × (string_bytes a.text ≡ registers_told json (value_in found.now.banks)
         (listed_banks log.now.hashes) ++ ok_text json Done)) }
 {
     let banks = listed_banks(log);
-    let mut text = String::new(alloc);
-    push_told(alloc, &mut text, json, found, banks.as_slice())?;
+    let registers = ToldRegisters {
+        found,
+        banks: banks.as_slice(),
+        json,
+    };
+    let mut text = rendered(alloc, json, Status::Done, &registers)?.text;
     text.push_str(ok_text(json, Status::Done))?;
     Ok(Answer::done(text))
 }

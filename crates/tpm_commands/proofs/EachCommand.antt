@@ -29,17 +29,20 @@ use Rattle.tpm_types.specs.Tpmt.{digest_value}
 use Rattle.tpm_types.specs.declared.command_code.CommandCode.{CommandCode}
 use Rattle.tpm_commands.specs.declared.command_handles.HandleKind.{HandleKind}
 use Rattle.tpm_commands.specs.declared.command.Params.{Params}
-use Rattle.tpm_commands.specs.declared.response.ReplyBody.{ReplyBody}
+use Rattle.tpm_commands.specs.declared.command.ReplyBody.{ReplyBody}
 use Rattle.tpm_commands.specs.Events.{event_bytes}
 use Rattle.tpm_commands.specs.Handles.{admits, AreAdmitted, handle_kinds, first, second}
-use Rattle.tpm_commands.specs.Parameters.{params_code, parameters, nv_define_space, pcr_event, startup, nv_read}
-use Rattle.tpm_commands.specs.Parameters.{flush_context, policy_command_code, policy_or, start_auth_session, pcr_read}
-use Rattle.tpm_commands.specs.Parameters.{policy_pcr, pcr_extend}
+use Rattle.tpm_commands.specs.Parameters.{params_code, parameters}
+use Rattle.tpm_commands.specs.Commands.Nv.{nv_define_space, nv_read, nv_read_reply, nv_read_public_reply}
+use Rattle.tpm_commands.specs.Commands.Pcr.{pcr_event, pcr_read, pcr_extend, pcr_event_reply, pcr_read_reply}
+use Rattle.tpm_commands.specs.Commands.Startup.{startup}
+use Rattle.tpm_commands.specs.Commands.Context.{flush_context}
+use Rattle.tpm_commands.specs.Commands.Policy.{policy_command_code, policy_or, policy_pcr, policy_get_digest_reply}
+use Rattle.tpm_commands.specs.Commands.Session.{start_auth_session, session_handle, session_in}
 use Rattle.tpm_commands.specs.Table.{register_in, index_in, policy_in, pcr_or_null_in, nv_auth_in, bind_in, or_else}
 use Rattle.tpm_commands.specs.Table.{body_from, handles_of, params_of}
-use Rattle.tpm_commands.specs.Replies.{code_for_reply, session_handle, session_in, reply_handles, reply_handles_of}
-use Rattle.tpm_commands.specs.Replies.{reply_parameters, pcr_event_reply, nv_read_reply, nv_read_public_reply}
-use Rattle.tpm_commands.specs.Replies.{start_auth_session_reply, pcr_read_reply, policy_get_digest_reply}
+use Rattle.tpm_commands.specs.Replies.{code_for_reply, reply_handles, reply_handles_of, reply_parameters}
+use Rattle.tpm_commands.specs.Commands.Session.{start_auth_session_reply}
 use Rattle.tpm_types.proofs.Short.{ok, next, only, of_hash, of_selection, of_digest_value, of_sym_def}
 use Rattle.tpm_types.specs.declared.command_code.CommandCode.TheVariants as codes
 use Rattle.tpm_commands.specs.declared.command_handles.HandleKind.TheVariants as kinds

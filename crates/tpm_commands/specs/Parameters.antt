@@ -5,12 +5,6 @@ use Rattle.tpm_wire.specs.Buffers.{Layout}
 use Rattle.tpm_types.specs.declared.command_code.CommandCode.{CommandCode}
 use Rattle.tpm_commands.specs.declared.command.Params.{Params}
 use Rattle.tpm_commands.specs.Table.{row}
-unfoldable pub use Rattle.tpm_commands.specs.Commands.Startup.{startup}
-unfoldable pub use Rattle.tpm_commands.specs.Commands.Session.{start_auth_session}
-unfoldable pub use Rattle.tpm_commands.specs.Commands.Pcr.{pcr_extend, pcr_event, pcr_read}
-unfoldable pub use Rattle.tpm_commands.specs.Commands.Policy.{policy_or, policy_pcr, policy_command_code}
-unfoldable pub use Rattle.tpm_commands.specs.Commands.Context.{flush_context}
-unfoldable pub use Rattle.tpm_commands.specs.Commands.Nv.{nv_define_space, nv_read}
 pub use Rattle.tpm_commands.specs.Table.{params_code}
 
 abbrev pub parameters : CommandCode → Layout Params

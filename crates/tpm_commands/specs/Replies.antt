@@ -3,15 +3,11 @@ use Rattle.std.specs.Prelude.{◌≡◌, ℕ, List, [], ◌∷◌, Option, Some,
 use Rattle.tpm_wire.specs.Buffers.{Layout}
 use Rattle.tpm_wire.specs.Layout.Form.{done}
 use Rattle.tpm_types.specs.declared.command_code.CommandCode.{CommandCode}
-use Rattle.tpm_commands.specs.declared.response.ReplyBody.{ReplyBody}
+use Rattle.tpm_commands.specs.declared.command.ReplyBody.{ReplyBody}
+use Rattle.tpm_commands.specs.Commands.Session.{session_handle}
 use Rattle.tpm_commands.specs.Table.{row}
 use Rattle.tpm_types.specs.declared.command_code.CommandCode.TheVariants as codes
-use Rattle.tpm_commands.specs.declared.response.ReplyBody.TheVariants as replies
-unfoldable pub use Rattle.tpm_commands.specs.Commands.Session.{session_handle, start_auth_session_reply}
-pub use Rattle.tpm_commands.specs.Commands.Session.{session_in}
-unfoldable pub use Rattle.tpm_commands.specs.Commands.Pcr.{pcr_event_reply, pcr_read_reply}
-unfoldable pub use Rattle.tpm_commands.specs.Commands.Policy.{policy_get_digest_reply}
-unfoldable pub use Rattle.tpm_commands.specs.Commands.Nv.{nv_read_reply, nv_read_public_reply}
+use Rattle.tpm_commands.specs.declared.command.ReplyBody.TheVariants as replies
 pub use Rattle.tpm_commands.specs.Table.{code_for_reply}
 
 -- the handle of each reply: TPM2_StartAuthSession's alone

@@ -12,7 +12,7 @@ use Rattle.tpm_types.specs.declared.handle_sets.BindHandle.TheVariants as binds
 use Rattle.tpm_types.specs.declared.command_code.CommandCode.{CommandCode}
 use Rattle.tpm_commands.specs.declared.command.CommandBody.{CommandBody}
 use Rattle.tpm_commands.specs.declared.command.Params.{Params}
-use Rattle.tpm_commands.specs.declared.response.ReplyBody.{ReplyBody}
+use Rattle.tpm_commands.specs.declared.command.ReplyBody.{ReplyBody}
 use Rattle.tpm_commands.specs.Row.{Row, first, second}
 use Rattle.tpm_commands.specs.Commands.Startup.{startup_row}
 use Rattle.tpm_commands.specs.Commands.Session.{start_auth_session_row, policy_restart_row}
@@ -25,7 +25,7 @@ use Rattle.tpm_commands.specs.Commands.Nv.{nv_read_public_row}
 use Rattle.tpm_types.specs.declared.command_code.CommandCode.TheVariants as codes
 use Rattle.tpm_commands.specs.declared.command.CommandBody.TheVariants as bodies
 use Rattle.tpm_commands.specs.declared.command.Params.TheVariants as params
-use Rattle.tpm_commands.specs.declared.response.ReplyBody.TheVariants as replies
+use Rattle.tpm_commands.specs.declared.command.ReplyBody.TheVariants as replies
 
 abbrev pub row : CommandCode → Row
 row codes.NvUndefineSpace = nv_undefine_space_row

@@ -12,7 +12,7 @@ ghost use Rattle.tpm_commands.specs.Handles.{handle_kinds as handle_kinds_of, ne
 ghost use Rattle.tpm_commands.specs.Handles.{handles as handles_layout};
 ghost use Rattle.tpm_commands.specs.Handles.{handles_from, AreAdmitted};
 
-use crate::commands::row_of;
+use crate::command::row_of;
 use arrayvec::ArrayVec;
 use tpm_types::{
     BindHandle, CommandCode, NvAuthHandle, NvIndex, PcrIndex, PcrOrNull, PolicyHandle, RH_NULL,
@@ -72,6 +72,60 @@ impl HandleKind {
         Ok(handle)
     }
 }
+
+/// What the table says of one command (Part 3, the command table of each).
+#[derive(Clone, Copy)]
+pub(crate) struct Row {
+    /// What its handles may be.
+    pub(crate) handles: &'static [HandleKind],
+    /// Whether its first handle needs authorization.
+    pub(crate) needs_authorization: bool,
+}
+
+pub(crate) const WITHOUT_HANDLES: Row = Row {
+    handles: &[],
+    needs_authorization: false,
+};
+
+pub(crate) const OF_POLICY: Row = Row {
+    handles: &[HandleKind::Policy],
+    needs_authorization: false,
+};
+
+pub(crate) const OF_START: Row = Row {
+    handles: &[HandleKind::Null, HandleKind::OwnerOrNull],
+    needs_authorization: false,
+};
+
+pub(crate) const OF_PUBLIC: Row = Row {
+    handles: &[HandleKind::Index],
+    needs_authorization: false,
+};
+
+pub(crate) const OF_MEASURING: Row = Row {
+    handles: &[HandleKind::PcrOrNull],
+    needs_authorization: true,
+};
+
+pub(crate) const OF_RESET: Row = Row {
+    handles: &[HandleKind::Pcr],
+    needs_authorization: true,
+};
+
+pub(crate) const OF_DEFINING: Row = Row {
+    handles: &[HandleKind::Owner],
+    needs_authorization: true,
+};
+
+pub(crate) const OF_UNDEFINING: Row = Row {
+    handles: &[HandleKind::Owner, HandleKind::Index],
+    needs_authorization: true,
+};
+
+pub(crate) const OF_COUNTER: Row = Row {
+    handles: &[HandleKind::OwnerOrIndex, HandleKind::Index],
+    needs_authorization: true,
+};
 
 /// The list of one handle.
 #[inline(always)]

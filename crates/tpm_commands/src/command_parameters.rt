@@ -1,10 +1,8 @@
 //! A command's parameters alone (Part 3).
 
-ghost use Rattle.std.specs.Prelude.{◌≡◌, ◌++◌, IfOk, OnOk};
-ghost use Rattle.tpm_wire.specs.Spelling.{spelling};
+ghost use Rattle.std.specs.Prelude.{◌≡◌, IfOk, OnOk};
 ghost use Rattle.tpm_wire.specs.Path.{Decodes};
 ghost use Rattle.tpm_wire.specs.Reading.{read_all};
-ghost use Rattle.tpm_wire.specs.Buffers.{TakesNumbered};
 ghost use Rattle.tpm_types.specs.declared.command_code.CommandCode.TheVariants as codes;
 ghost use Rattle.tpm_commands.specs.declared.command.Params.TheVariants as params;
 ghost use Rattle.tpm_commands.specs.Parameters.{parameters, params_code, placed};
@@ -13,28 +11,6 @@ use crate::command::Params;
 use crate::commands::StartParams;
 use tpm_types::CommandCode;
 use tpm_wire::{Cursor, Refusal};
-
-/// Reads the parameters of a command with this code.
-#[inline(never)]
-fn read_params<'a>(
-    cursor: &mut Cursor<'a>,
-    code: CommandCode,
-    params: &mut Params<'a>,
-) -> Result<(), Refusal>
-    ensures reads { TakesNumbered (λ _. params.new) (parameters code) cursor.old cursor.new result }
-    ensures spelled { OnOk result
-        (cursor.old.here.rest ≡ spelling (parameters code) params.new ++ cursor.new.here.rest) }
-    ensures code { OnOk result (params_code params.new ≡ code) }
-{
-    // (digests that are there already are read over, and not made anew first)
-    if !matches!(
-        (code, &*params),
-        (CommandCode::PcrExtend, Params::PcrExtend(_))
-    ) {
-        params.begin(code);
-    }
-    params.read(cursor)
-}
 
 /// The parameters that the bytes spell, all of them, or the code and the position of their first fault, counted from
 /// the first of these bytes: INSUFFICIENT, VALUE, SIZE, HASH, SYMMETRIC, MODE or RESERVED_BITS with the parameter's
@@ -60,7 +36,7 @@ pub fn decode_params_into<'a>(
     ensures code { OnOk result (params_code params.new ≡ code) }
 {
     let mut cursor = Cursor::of_whole(bytes);
-    read_params(&mut cursor, code, params)?;
+    params.read(&mut cursor, code)?;
     cursor.end_of_whole(bytes)
 }
 

@@ -9,15 +9,15 @@ mod commands;
 mod lent;
 mod response;
 
-pub use command::{Command, CommandBody, Header, Params, StartAuth};
+pub use command::{
+    Command, CommandBody, Header, Params, ReplyBody, StartAuth, read_reply_params,
+    take_reply_handle,
+};
 pub use command_handles::{
     CommandTable, bind_in, first_handle, index_in, nv_auth_in, pcr_or_null_in, policy_in,
     register_in, second_handle, take_handles,
 };
 pub use command_parameters::{decode_params, decode_params_into, decode_start_into};
-pub use commands::{
-    NvDefineSpace, NvRead, PolicyPcr, StartParams, read_pcr_extend, read_reply_params,
-    read_startup, take_reply_handle,
-};
+pub use commands::{NvDefineSpace, NvRead, PolicyPcr, StartParams, read_pcr_extend, take_startup};
 pub use lent::{EVENT_BYTES, Event, take_sized};
-pub use response::{ErrorCode, NvData, ReplyBody, Response, StartReply};
+pub use response::{ErrorCode, NvData, Response, StartReply};

@@ -2,6 +2,7 @@
 
 ghost use Rattle.std.specs.Prelude.{◌≡◌, ◌<◌, ℕ, Some, None, nat_lt, if◌then◌else◌};
 
+use crate::command::ReplyBody;
 use arrayvec::ArrayVec;
 use std::marker::Model;
 use tpm_types::{
@@ -47,36 +48,6 @@ impl ErrorCode {
     {
         self.code
     }
-}
-
-/// What a command answers where it succeeds, with its handle and parameters: the response of that name in Part 3.
-#[derive(Drop)]
-pub enum ReplyBody {
-    NvUndefineSpace,
-    NvDefineSpace,
-    NvIncrement,
-    PcrEvent(DigestValues),
-    PcrReset,
-    Startup,
-    NvRead(NvData),
-    FlushContext,
-    NvReadPublic {
-        public: NvPublic,
-        name: Name,
-    },
-    PolicyAuthValue,
-    PolicyCommandCode,
-    PolicyOr,
-    StartAuthSession(StartReply),
-    PcrRead {
-        update_counter: u32,
-        selections: Selections,
-        digests: Digests,
-    },
-    PolicyPcr,
-    PolicyRestart,
-    PcrExtend,
-    PolicyGetDigest(Digest),
 }
 
 /// What a started session is answered with (Part 3, 11.1).

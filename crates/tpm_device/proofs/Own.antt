@@ -3,7 +3,7 @@ use Rattle.std.proofs.Common.{◌≡◌, ℕ, List, Result, Ok, Err}
 use Rattle.std.specs.Prelude.{IfOk}
 use Rattle.tpm_wire.specs.Reading.{read_all, ◌>>=◌}
 use Rattle.tpm_commands.specs.declared.command.CommandBody.{CommandBody}
-use Rattle.tpm_commands.specs.declared.response.ReplyBody.{ReplyBody}
+use Rattle.tpm_commands.specs.declared.command.ReplyBody.{ReplyBody}
 use Rattle.tpm_commands.specs.Parameters.{parameters}
 use Rattle.tpm_commands.specs.Replies.{code_for_reply}
 use Rattle.tpm_buffer.specs.Commands.{body_from, code_for}

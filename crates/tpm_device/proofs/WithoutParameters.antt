@@ -1,8 +1,8 @@
 -- Replies without parameters.
 use Rattle.std.proofs.Common.{◌≡◌, true, List, [], ◌∷◌, refl}
 use Rattle.tpm_types.specs.declared.tpms.AuthReply.{AuthReply}
-use Rattle.tpm_commands.specs.declared.response.ReplyBody.{ReplyBody}
-use Rattle.tpm_commands.specs.declared.response.ReplyBody.TheVariants as replies
+use Rattle.tpm_commands.specs.declared.command.ReplyBody.{ReplyBody}
+use Rattle.tpm_commands.specs.declared.command.ReplyBody.TheVariants as replies
 use Rattle.tpm_buffer.specs.Responses.{response, response_front, response_tag, response_code, with_sessions}
 use Rattle.tpm_buffer.specs.Responses.{without_sessions, parameter_size}
 use Rattle.tpm_buffer.specs.Commands.{command_size}

@@ -9,7 +9,7 @@ ghost use Rattle.tpm_types.specs.declared.command_code.CommandCode.TheVariants a
 ghost use Rattle.tpm_commands.specs.declared.command.Params.TheVariants as of_command;
 ghost use Rattle.tpm_commands.specs.Parameters.{parameters, params_code};
 
-use tpm_commands::{NvRead, Params, read_startup};
+use tpm_commands::{NvRead, Params, take_startup};
 use tpm_types::{CommandCode, StartupType};
 use tpm_wire::Cursor;
 
@@ -21,9 +21,8 @@ fn startup_kind(bytes: &[u8]) -> Option<StartupType>
         read_all (parameters codes.Startup) bytes.now ≡ Ok (of_command.Startup kind)) }
 {
     let mut cursor = Cursor::new(bytes);
-    let mut kind = StartupType::Clear;
-    match read_startup(&mut cursor, &mut kind) {
-        Ok(()) if cursor.left() == 0 => Some(kind),
+    match take_startup(&mut cursor) {
+        Ok(kind) if cursor.left() == 0 => Some(kind),
         _ => None,
     }
 }
@@ -36,9 +35,8 @@ fn nv_read_sizes(bytes: &[u8]) -> Option<NvRead>
         read_all (parameters codes.NvRead) bytes.now ≡ Ok (of_command.NvRead x)) }
 {
     let mut cursor = Cursor::new(bytes);
-    let mut sizes = NvRead::any();
-    match sizes.read(&mut cursor) {
-        Ok(()) if cursor.left() == 0 => Some(sizes),
+    match NvRead::take(&mut cursor) {
+        Ok(sizes) if cursor.left() == 0 => Some(sizes),
         _ => None,
     }
 }

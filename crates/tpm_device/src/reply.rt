@@ -1,7 +1,7 @@
 //! The reply, with the session of the command.
 
 ghost use Rattle.std.specs.Prelude.{◌≡◌, ◌<◌, true, [], ◌∷◌, length, Ok};
-ghost use Rattle.tpm_commands.specs.declared.response.ReplyBody.{ReplyBody as BodyOf};
+ghost use Rattle.tpm_commands.specs.declared.command.ReplyBody.{ReplyBody as BodyOf};
 ghost use Rattle.tpm_commands.specs.Handles.{first as first_of};
 ghost use Rattle.tpm_buffer.specs.CommandAreas.{Cut};
 ghost use Rattle.tpm_model.specs.Present.{Present};

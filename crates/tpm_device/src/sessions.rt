@@ -2,7 +2,7 @@
 
 ghost use Rattle.std.specs.Prelude.{◌≡◌, ℕ, List, IfOk, OnOk, OnErr};
 ghost use Rattle.tpm_commands.specs.declared.command.CommandBody.TheVariants as bodies;
-ghost use Rattle.tpm_commands.specs.declared.response.ReplyBody.TheVariants as replies;
+ghost use Rattle.tpm_commands.specs.declared.command.ReplyBody.TheVariants as replies;
 ghost use Rattle.tpm_model.specs.Actions.{action};
 ghost use Rattle.tpm_session.specs.Answers.{started_reply};
 ghost use Rattle.tpm_device.specs.Stands.{holds};

@@ -7,7 +7,7 @@ ghost use Rattle.tpm_wire.specs.Reading.{read_all};
 ghost use Rattle.tpm_types.specs.declared.command_code.CommandCode.TheVariants as codes;
 ghost use Rattle.tpm_commands.specs.declared.command.CommandBody.TheVariants as bodies;
 ghost use Rattle.tpm_commands.specs.declared.command.Params.{Params as ParamsOf};
-ghost use Rattle.tpm_commands.specs.declared.response.ReplyBody.TheVariants as replies;
+ghost use Rattle.tpm_commands.specs.declared.command.ReplyBody.TheVariants as replies;
 ghost use Rattle.tpm_commands.specs.Parameters.{parameters};
 ghost use Rattle.tpm_buffer.specs.Commands.{body_from};
 ghost use Rattle.tpm_model.specs.Answers.{performed as performed_of};

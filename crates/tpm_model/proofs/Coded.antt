@@ -17,7 +17,7 @@ use Rattle.tpm_commands.specs.declared.command_handles.HandleKind.{HandleKind}
 use Rattle.tpm_types.specs.declared.command_code.CommandCode.{CommandCode}
 use Rattle.tpm_types.specs.CommandCodes.{command_code}
 use Rattle.tpm_commands.specs.Handles.{admits, handles_from, handles, handle_kinds}
-use Rattle.tpm_commands.specs.Parameters.{start_auth_session}
+use Rattle.tpm_commands.specs.Commands.Session.{start_auth_session}
 use Rattle.tpm_types.specs.declared.command_code.CommandCode.TheVariants as codes
 use Rattle.tpm_buffer.specs.Commands.{tag, command_size, header, sessions, authorization_size, authorization}
 use Rattle.tpm_model.proofs.Nonzero.{IsCoded, coded_in, coded_number, coded_sized_bytes, coded_sized, coded_counted}

@@ -25,10 +25,14 @@ use Rattle.tpm_types.specs.declared.handle_sets.PcrOrNull.TheVariants as registe
 use Rattle.tpm_types.specs.declared.command_code.CommandCode.{CommandCode}
 use Rattle.tpm_commands.specs.declared.command.CommandBody.{CommandBody}
 use Rattle.tpm_commands.specs.declared.command.StartAuth.{StartAuth}
-use Rattle.tpm_commands.specs.declared.response.ReplyBody.{ReplyBody}
-use Rattle.tpm_commands.specs.Parameters.{parameters, nv_define_space, startup, nv_read, flush_context}
-use Rattle.tpm_commands.specs.Parameters.{policy_command_code, policy_or, start_auth_session, pcr_read, policy_pcr}
-use Rattle.tpm_commands.specs.Parameters.{pcr_extend, pcr_event, params_code}
+use Rattle.tpm_commands.specs.declared.command.ReplyBody.{ReplyBody}
+use Rattle.tpm_commands.specs.Parameters.{parameters, params_code}
+use Rattle.tpm_commands.specs.Commands.Nv.{nv_define_space, nv_read}
+use Rattle.tpm_commands.specs.Commands.Startup.{startup}
+use Rattle.tpm_commands.specs.Commands.Context.{flush_context}
+use Rattle.tpm_commands.specs.Commands.Policy.{policy_command_code, policy_or, policy_pcr}
+use Rattle.tpm_commands.specs.Commands.Session.{start_auth_session}
+use Rattle.tpm_commands.specs.Commands.Pcr.{pcr_read, pcr_extend, pcr_event}
 use Rattle.tpm_commands.specs.Events.{event_bytes}
 use Rattle.tpm_commands.specs.Replies.{code_for_reply}
 use Rattle.tpm_types.specs.declared.command_code.CommandCode.TheVariants as codes

@@ -25,9 +25,9 @@ use Rattle.tpm_types.specs.Tpma.{is_written}
 use Rattle.tpm_types.specs.Tpm2b.{auth_value}
 use Rattle.tpm_types.specs.Tpms.{nv_public}
 use Rattle.tpm_commands.specs.declared.command.CommandBody.{CommandBody}
-use Rattle.tpm_commands.specs.declared.response.ReplyBody.{ReplyBody}
+use Rattle.tpm_commands.specs.declared.command.ReplyBody.{ReplyBody}
 use Rattle.tpm_commands.specs.declared.command.CommandBody.TheVariants as bodies
-use Rattle.tpm_commands.specs.declared.response.ReplyBody.TheVariants as replies
+use Rattle.tpm_commands.specs.declared.command.ReplyBody.TheVariants as replies
 use Rattle.tpm_hmac.specs.Sessions.{trim}
 use Rattle.tpm_hmac.proofs.Trimming.{trim-trim}
 use Rattle.tpm_model.specs.NvMemory.{Counter, NvMemory, new_nv}

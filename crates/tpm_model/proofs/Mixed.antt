@@ -25,7 +25,7 @@ use Rattle.tpm_types.specs.Tpms.{auth_response}
 use Rattle.tpm_types.proofs.Algs.{digest_most}
 use Rattle.tpm_types.specs.declared.command_code.CommandCode.{CommandCode}
 use Rattle.tpm_commands.specs.declared.command.Command.{Command}
-use Rattle.tpm_commands.specs.declared.response.ReplyBody.{ReplyBody}
+use Rattle.tpm_commands.specs.declared.command.ReplyBody.{ReplyBody}
 use Rattle.tpm_commands.specs.declared.response.Response.{Response}
 use Rattle.tpm_types.specs.CommandCodes.{code_number}
 use Rattle.tpm_commands.specs.Handles.{first, needs_authorization}

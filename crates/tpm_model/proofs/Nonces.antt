@@ -10,9 +10,9 @@ use Rattle.tpm_types.proofs.Algs.{digest_most}
 use Rattle.tpm_commands.specs.declared.command.Command.{Command}
 use Rattle.tpm_commands.specs.declared.command.CommandBody.{CommandBody}
 use Rattle.tpm_commands.specs.declared.command.StartAuth.{StartAuth}
-use Rattle.tpm_commands.specs.declared.response.ReplyBody.{ReplyBody}
+use Rattle.tpm_commands.specs.declared.command.ReplyBody.{ReplyBody}
 use Rattle.tpm_commands.specs.declared.command.CommandBody.TheVariants as bodies
-use Rattle.tpm_commands.specs.declared.response.ReplyBody.TheVariants as replies
+use Rattle.tpm_commands.specs.declared.command.ReplyBody.TheVariants as replies
 use Rattle.tpm_buffer.specs.Responses.{Reply}
 use Rattle.tpm_model.specs.Steps.{History, Accepted, PowerCycle, Origin}
 use Rattle.tpm_model.specs.Sessions.{Session, slot_of, lives, begins, clears, closes, authorizes, Start, start_of}

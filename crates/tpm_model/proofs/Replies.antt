@@ -25,12 +25,13 @@ use Rattle.tpm_types.specs.Tpmt.{digest_value}
 use Rattle.tpm_types.specs.Tpms.{auth_response}
 use Rattle.tpm_commands.specs.declared.command.CommandBody.{CommandBody}
 use Rattle.tpm_commands.specs.declared.commands.nv.NvRead.{NvRead}
-use Rattle.tpm_commands.specs.declared.response.ReplyBody.{ReplyBody}
+use Rattle.tpm_commands.specs.declared.command.ReplyBody.{ReplyBody}
 use Rattle.tpm_commands.specs.Handles.{needs_authorization}
 use Rattle.tpm_commands.specs.Replies.{code_for_reply, reply_handles, reply_handles_of, parameters_of_reply}
-use Rattle.tpm_commands.specs.Replies.{nv_read_reply, pcr_event_reply}
+use Rattle.tpm_commands.specs.Commands.Nv.{nv_read_reply}
+use Rattle.tpm_commands.specs.Commands.Pcr.{pcr_event_reply}
 use Rattle.tpm_commands.specs.declared.command.CommandBody.TheVariants as bodies
-use Rattle.tpm_commands.specs.declared.response.ReplyBody.TheVariants as replies
+use Rattle.tpm_commands.specs.declared.command.ReplyBody.TheVariants as replies
 use Rattle.tpm_buffer.specs.Commands.{code_for}
 use Rattle.tpm_buffer.specs.Responses.{Reply, reply_tag, reply, with_sessions, parameter_size, reply_sessions}
 use Rattle.tpm_buffer.specs.Responses.{further_sessions, response, done_with}

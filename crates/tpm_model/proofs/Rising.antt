@@ -7,9 +7,9 @@ use Rattle.tpm_wire.proofs.Agreement.{bind_ok}
 use Rattle.tpm_types.specs.declared.handle_sets.NvAuthHandle.{NvAuthHandle}
 use Rattle.tpm_types.specs.declared.tpms.NvPublic.{NvPublic}
 use Rattle.tpm_commands.specs.declared.command.CommandBody.{CommandBody}
-use Rattle.tpm_commands.specs.declared.response.ReplyBody.{ReplyBody}
+use Rattle.tpm_commands.specs.declared.command.ReplyBody.{ReplyBody}
 use Rattle.tpm_commands.specs.declared.command.CommandBody.TheVariants as bodies
-use Rattle.tpm_commands.specs.declared.response.ReplyBody.TheVariants as replies
+use Rattle.tpm_commands.specs.declared.command.ReplyBody.TheVariants as replies
 use Rattle.tpm_model.specs.Steps.{History, Accepted, Origin}
 use Rattle.tpm_model.specs.Counters.{Counter, has_index, counter_in, without, next_value, with_increment, value_of}
 use Rattle.tpm_model.specs.Counters.{NvMemory, defined, nv_by, nv_memory, value_at}

@@ -14,7 +14,7 @@ use Rattle.tpm_types.specs.Tpma.{is_session_attrs}
 use Rattle.tpm_types.proofs.Algs.{digest_most}
 use Rattle.tpm_types.specs.declared.command_code.CommandCode.{CommandCode}
 use Rattle.tpm_commands.specs.declared.command.Command.{Command}
-use Rattle.tpm_commands.specs.declared.response.ReplyBody.{ReplyBody}
+use Rattle.tpm_commands.specs.declared.command.ReplyBody.{ReplyBody}
 use Rattle.tpm_commands.specs.Handles.{needs_authorization}
 use Rattle.tpm_buffer.specs.Commands.{command, code_for}
 use Rattle.tpm_buffer.specs.Responses.{Reply, response, done_with}

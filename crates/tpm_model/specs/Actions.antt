@@ -16,9 +16,9 @@ use Rattle.tpm_types.specs.Tpma.{is_counter, is_undefinable, is_writable, is_rea
 use Rattle.tpm_types.specs.declared.handle_sets.NvAuthHandle.TheVariants as nv
 use Rattle.tpm_commands.specs.declared.command.CommandBody.{CommandBody}
 use Rattle.tpm_commands.specs.declared.command.StartAuth.{StartAuth}
-use Rattle.tpm_commands.specs.declared.response.ReplyBody.{ReplyBody}
+use Rattle.tpm_commands.specs.declared.command.ReplyBody.{ReplyBody}
 use Rattle.tpm_commands.specs.declared.command.CommandBody.TheVariants as bodies
-use Rattle.tpm_commands.specs.declared.response.ReplyBody.TheVariants as replies
+use Rattle.tpm_commands.specs.declared.command.ReplyBody.TheVariants as replies
 use Rattle.tpm_hmac.specs.Sessions.{trim}
 use Rattle.tpm_pcr.specs.Registers.{event_digests, value_in, composite, values_read, selections_read}
 use Rattle.tpm_model.specs.Sessions.{Session, is_trial, handle_for, nonce_from, loaded, free_slot}

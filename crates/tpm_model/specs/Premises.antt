@@ -14,7 +14,7 @@ use Rattle.tpm_types.specs.Handles.{is_session}
 use Rattle.tpm_types.specs.Limits.{digest_bytes}
 use Rattle.tpm_types.specs.declared.command_code.CommandCode.{CommandCode}
 use Rattle.tpm_commands.specs.declared.command.Command.{Command}
-use Rattle.tpm_commands.specs.declared.response.ReplyBody.{ReplyBody}
+use Rattle.tpm_commands.specs.declared.command.ReplyBody.{ReplyBody}
 use Rattle.tpm_commands.specs.declared.response.Response.{Response}
 use Rattle.tpm_commands.specs.Handles.{first}
 use Rattle.tpm_buffer.specs.Commands.{command, code_for, handles_of}

@@ -13,9 +13,9 @@ use Rattle.tpm_types.specs.Tpma.{continues}
 use Rattle.tpm_types.specs.declared.handle_sets.BindHandle.TheVariants as binds
 use Rattle.tpm_commands.specs.declared.command.CommandBody.{CommandBody}
 use Rattle.tpm_commands.specs.declared.command.StartAuth.{StartAuth}
-use Rattle.tpm_commands.specs.declared.response.ReplyBody.{ReplyBody}
+use Rattle.tpm_commands.specs.declared.command.ReplyBody.{ReplyBody}
 use Rattle.tpm_commands.specs.declared.command.CommandBody.TheVariants as bodies
-use Rattle.tpm_commands.specs.declared.response.ReplyBody.TheVariants as replies
+use Rattle.tpm_commands.specs.declared.command.ReplyBody.TheVariants as replies
 use Rattle.tpm_hmac.specs.Sessions.{session_key}
 use Rattle.tpm_model.specs.Steps.{History, PowerCycle, Accepted, Origin}
 use Rattle.tpm_model.specs.Changes.{changes}

@@ -15,7 +15,7 @@ ghost use Rattle.tpm_types.specs.declared.command_code.CommandCode.{CommandCode}
 ghost use Rattle.tpm_commands.specs.Handles.{handles, needs_authorization};
 ghost use Rattle.tpm_commands.specs.Parameters.{parameters};
 ghost use Rattle.tpm_commands.specs.declared.command.CommandBody.TheVariants as bodies;
-ghost use Rattle.tpm_commands.specs.declared.response.ReplyBody.TheVariants as replies;
+ghost use Rattle.tpm_commands.specs.declared.command.ReplyBody.TheVariants as replies;
 ghost use Rattle.tpm_buffer.specs.Commands.{header, authorization, command, code_for};
 ghost use Rattle.tpm_hmac.specs.Sessions.{trim};
 ghost use Rattle.tpm_model.specs.Steps.{History, PowerCycle, Origin};

@@ -18,12 +18,6 @@ abbrev pub lines_from : {A : Type 0} → (ℕ → A → List ℕ) → ℕ → Li
 lines_from one i [] = []
 lines_from one i (x ∷ xs) = one i x ++ lines_from one (i + 1) xs
 
--- words with a comma between them
-abbrev pub commas : List (List ℕ) → List ℕ
-commas [] = []
-commas (word ∷ []) = word
-commas (word ∷ next ∷ words) = word ++ (codes "," ++ commas (next ∷ words))
-
 -- before an entry of a list, counted from 1: a comma, where it isn't the first
 abbrev pub comma : ℕ → List ℕ
 comma i = if i == 1 then [] else codes ","

@@ -48,7 +48,7 @@ fn begins(mark: &Mark<'_>) -> bool
     }
 }
 
-fn ends(mark: &Mark<'_>) -> bool
+pub(crate) fn ends(mark: &Mark<'_>) -> bool
     ensures { result ≡ ends (as_mark mark.now) }
 {
     match mark {
@@ -57,7 +57,7 @@ fn ends(mark: &Mark<'_>) -> bool
     }
 }
 
-fn separator(behind: bool, mark: &Mark<'_>) -> &'static str
+pub(crate) fn separator(behind: bool, mark: &Mark<'_>) -> &'static str
     ensures { result.now ≡ separator behind (as_mark mark.now) }
 {
     if behind && begins(mark) { "," } else { "" }
@@ -91,7 +91,7 @@ pub(crate) fn put_units<S: Sink>(sink: &mut S, name: Option<&str>, value: &Value
     Ok(())
 }
 
-fn put_mark<S: Sink>(sink: &mut S, mark: &Mark<'_>) -> Told
+pub(crate) fn put_mark<S: Sink>(sink: &mut S, mark: &Mark<'_>) -> Told
     ensures { OnOk result (S.written sink.new
         ≡ S.written sink.old ++ mark_text (as_mark mark.now)) }
 {

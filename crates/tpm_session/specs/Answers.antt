@@ -1,8 +1,8 @@
 -- What the calls answer and make of a session, beside what the commands do.
 use Rattle.std.specs.Prelude.{ℕ, Result, Ok, Err}
 use Rattle.tpm_commands.specs.declared.response.StartReply.{StartReply}
-use Rattle.tpm_commands.specs.declared.response.ReplyBody.{ReplyBody}
-use Rattle.tpm_commands.specs.declared.response.ReplyBody.TheVariants as replies
+use Rattle.tpm_commands.specs.declared.command.ReplyBody.{ReplyBody}
+use Rattle.tpm_commands.specs.declared.command.ReplyBody.TheVariants as replies
 
 -- the answer of TPM2_StartAuthSession, as that of a command
 abbrev pub started_reply : Result StartReply ℕ → Result ReplyBody ℕ

@@ -4,7 +4,7 @@ ghost use Rattle.std.specs.Prelude.{◌≡◌, ◌<◌, ℕ, true, List, [], ◌
 ghost use Rattle.tpm_commands.specs.declared.command.Command.{Command};
 ghost use Rattle.tpm_commands.specs.Handles.{needs_authorization};
 ghost use Rattle.tpm_commands.specs.declared.command.CommandBody.TheVariants as bodies;
-ghost use Rattle.tpm_commands.specs.declared.response.ReplyBody.TheVariants as replies;
+ghost use Rattle.tpm_commands.specs.declared.command.ReplyBody.TheVariants as replies;
 ghost use Rattle.tpm_buffer.specs.Responses.{Reply};
 ghost use Rattle.tpm_buffer.specs.Commands.{code_for};
 ghost use Rattle.tpm_hmac.specs.Sessions.{trim as trim_of};

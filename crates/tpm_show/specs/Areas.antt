@@ -1,7 +1,7 @@
 -- What stands behind the header of a frame, whether the profile has its command or the library's table (this profile).
 use Rattle.std.specs.Prelude.{ℕ, Bool, List, [], ◌∷◌, ◌++◌, codes, map}
 use Rattle.tpm_commands.specs.declared.command.CommandBody.{CommandBody}
-use Rattle.tpm_commands.specs.declared.response.ReplyBody.{ReplyBody}
+use Rattle.tpm_commands.specs.declared.command.ReplyBody.{ReplyBody}
 use Rattle.tpm_commands.specs.declared.response.Response.{Response}
 use Rattle.tpm_commands.specs.declared.response.Response.TheVariants as responses
 use Rattle.tpm_buffer.specs.CommandAreas.{Cut}

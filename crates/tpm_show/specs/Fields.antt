@@ -1,12 +1,12 @@
 -- The parameters of commands and replies, each by its name and its type, and what stands in it (this profile).
 use Rattle.std.specs.Prelude.{List, [], ◌∷◌, codes as text, Option, Some, None}
 use Rattle.tpm_commands.specs.declared.command.CommandBody.{CommandBody}
-use Rattle.tpm_commands.specs.declared.response.ReplyBody.{ReplyBody}
+use Rattle.tpm_commands.specs.declared.command.ReplyBody.{ReplyBody}
 use Rattle.tpm_commands.specs.Table.{row}
 use Rattle.tpm_commands.specs.Parameters.{parameters}
 use Rattle.tpm_commands.specs.Replies.{code_for_reply, parameters_of_reply}
 use Rattle.tpm_commands.specs.declared.command.CommandBody.TheVariants as bodies
-use Rattle.tpm_commands.specs.declared.response.ReplyBody.TheVariants as replies
+use Rattle.tpm_commands.specs.declared.command.ReplyBody.TheVariants as replies
 use Rattle.tpm_buffer.specs.Commands.{code_for, params_of}
 use Rattle.tpm_show.specs.Parts.{public_parts, selection_parts, digest_parts, digest_value_parts, symmetric_parts}
 use Rattle.tpm_show.specs.FieldText.{fields_from, parts}

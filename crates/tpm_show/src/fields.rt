@@ -43,7 +43,7 @@ fn tell_event<T: Teller>(teller: &mut T, event: &Event<'_>) -> Pushed
 
 /// Tells each parameter of a command: its name, its type and its bytes (Part 3, the table of the command), and what
 /// stands in it.
-#[tactic(auto, unfolding(tpm_types::specs::Constants::startup_type, tpm_types::specs::Constants::session_type, tpm_types::specs::Tpm2b::encrypted_salt, tpm_commands::specs::Parameters::startup, tpm_commands::specs::Parameters::nv_define_space, tpm_commands::specs::Parameters::pcr_event, tpm_commands::specs::Parameters::nv_read, tpm_commands::specs::Parameters::flush_context, tpm_commands::specs::Parameters::policy_command_code, tpm_commands::specs::Parameters::policy_or, tpm_commands::specs::Parameters::start_auth_session, tpm_commands::specs::Parameters::pcr_read, tpm_commands::specs::Parameters::policy_pcr, tpm_commands::specs::Parameters::pcr_extend))]
+#[tactic(auto, unfolding(tpm_types::specs::Constants::startup_type, tpm_types::specs::Constants::session_type, tpm_types::specs::Tpm2b::encrypted_salt, tpm_commands::specs::Commands::Startup::startup, tpm_commands::specs::Commands::Nv::nv_define_space, tpm_commands::specs::Commands::Pcr::pcr_event, tpm_commands::specs::Commands::Nv::nv_read, tpm_commands::specs::Commands::Context::flush_context, tpm_commands::specs::Commands::Policy::policy_command_code, tpm_commands::specs::Commands::Policy::policy_or, tpm_commands::specs::Commands::Session::start_auth_session, tpm_commands::specs::Commands::Pcr::pcr_read, tpm_commands::specs::Commands::Policy::policy_pcr, tpm_commands::specs::Commands::Pcr::pcr_extend))]
 pub(crate) fn tell_command_fields<T: Teller>(teller: &mut T, body: &CommandBody<'_>) -> Pushed
     ensures { OnOk result
         (T.told teller.new ≡ T.told teller.old ++ flat_map T.marks (command_fields body.now)) }
@@ -121,7 +121,7 @@ pub(crate) fn tell_command_fields<T: Teller>(teller: &mut T, body: &CommandBody<
 
 /// Tells each parameter of a reply: its name, its type and its bytes (Part 3, the response table of the command), and
 /// what stands in it.
-#[tactic(auto, unfolding(tpm_commands::specs::Replies::pcr_event_reply, tpm_commands::specs::Replies::nv_read_reply, tpm_commands::specs::Replies::nv_read_public_reply, tpm_commands::specs::Replies::start_auth_session_reply, tpm_commands::specs::Replies::pcr_read_reply, tpm_commands::specs::Replies::policy_get_digest_reply))]
+#[tactic(auto, unfolding(tpm_commands::specs::Commands::Pcr::pcr_event_reply, tpm_commands::specs::Commands::Nv::nv_read_reply, tpm_commands::specs::Commands::Nv::nv_read_public_reply, tpm_commands::specs::Commands::Session::start_auth_session_reply, tpm_commands::specs::Commands::Pcr::pcr_read_reply, tpm_commands::specs::Commands::Policy::policy_get_digest_reply))]
 pub(crate) fn tell_reply_fields<T: Teller>(teller: &mut T, body: &ReplyBody) -> Pushed
     ensures { OnOk result
         (T.told teller.new ≡ T.told teller.old ++ flat_map T.marks (reply_fields body.now)) }

@@ -7,7 +7,7 @@ use Rattle.tpm_types.specs.Limits.{digest_bytes}
 use Rattle.tpm_types.specs.declared.tpms.AuthReply.{AuthReply}
 use Rattle.tpm_types.specs.declared.command_code.CommandCode.{CommandCode}
 use Rattle.tpm_types.specs.declared.command_code.CommandCode.TheVariants as codes
-use Rattle.tpm_commands.specs.declared.response.ReplyBody.{ReplyBody}
+use Rattle.tpm_commands.specs.declared.command.ReplyBody.{ReplyBody}
 use Rattle.tpm_commands.specs.declared.response.Response.TheVariants as responses
 use Rattle.tpm_buffer.specs.Responses.{response, done_with}
 use Rattle.tpm_model.specs.Callers.{Waiting, opened_session}

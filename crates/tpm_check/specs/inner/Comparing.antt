@@ -1,14 +1,13 @@
 -- What comes of a line of a list of registers.
-use Rattle.std.specs.Prelude.{◌≡◌, ℕ, Bool, true, false, List, [], Option, Some, None}
+use Rattle.std.specs.Prelude.{◌≡◌, ℕ, true, List, [], Option, Some, None}
 use Rattle.tpm_check.specs.declared.compared.Comparing.{Comparing}
 use Rattle.tpm_check.specs.declared.list_lines.ListLine.{ListLine as InCode}
 use Rattle.tpm_check.specs.declared.stated.Stated.{Stated as RustStated}
 use Rattle.tpm_check.specs.Compare.{Beside, Stated, ListLine, States, Heads, Passes, Wrong, line_under}
-use Rattle.tpm_check.specs.Compare.{is_value, compared_text, not_a_register_text, most_line}
+use Rattle.tpm_check.specs.Compare.{is_value, compared_text, not_a_register_text, most_line, status_if}
 use Rattle.tpm_check.specs.inner.Told.{told}
 use Rattle.tpm_check.specs.declared.list_lines.ListLine.TheVariants as listed
-use Rattle.tpm_output.specs.declared.status.Status.TheVariants.{Refused}
-use Rattle.tpm_output.specs.declared.status.Status.{Status}
+use Rattle.tpm_output.specs.Status.{both}
 use Rattle.tpm_output.specs.LineSinks.{Limits, LineStep}
 
 -- what was read of a line
@@ -27,18 +26,13 @@ line_as listed.Wrong = Wrong
 abbrev pub list_line : Limits
 list_line = record { counts = λ _. true; most = most_line; long_ends = true }
 
--- the status behind a line that has the register's value, or has not
-abbrev pub status_behind : Status → Bool → Status
-status_behind status true = status
-status_behind status false = Refused
-
 -- what is printed of a line that states this, and how the comparison stands behind it
 abbrev pub stated_text : Beside → Stated → List ℕ
 stated_text b s = compared_text b.json (is_value b.value s) s.bank s.register
 
 abbrev pub stated_behind : Comparing → Stated → Comparing
 stated_behind c s = record c {
-  status = status_behind c.status (is_value (told c.found.now).value s);
+  status = both c.status (status_if (is_value (told c.found.now).value s));
   any = true;
 }
 

@@ -10,10 +10,10 @@ use Rattle.tpm_types.specs.Tpm2b.{auth_value, name}
 use Rattle.tpm_types.specs.Tpms.{nv_public}
 use Rattle.tpm_commands.specs.declared.command_handles.HandleKind.TheVariants.{Owner, Index, OwnerOrIndex}
 use Rattle.tpm_commands.specs.declared.command.Params.{Params}
-use Rattle.tpm_commands.specs.declared.response.ReplyBody.{ReplyBody}
+use Rattle.tpm_commands.specs.declared.command.ReplyBody.{ReplyBody}
 use Rattle.tpm_commands.specs.Row.{Row, named}
 use Rattle.tpm_commands.specs.declared.command.Params.TheVariants as params
-use Rattle.tpm_commands.specs.declared.response.ReplyBody.TheVariants as replies
+use Rattle.tpm_commands.specs.declared.command.ReplyBody.TheVariants as replies
 
 abbrev pub no_public : NvPublic
 no_public = record { index = 0x01000000; alg = Sha256; attrs = 0; policy = []; data_size = 0 }

@@ -9,11 +9,11 @@ use Rattle.tpm_types.specs.declared.tpms.Selection.{Selection}
 use Rattle.tpm_types.specs.Tpml.{selections, digests, digest_values}
 use Rattle.tpm_commands.specs.declared.command_handles.HandleKind.TheVariants.{Pcr, PcrOrNull}
 use Rattle.tpm_commands.specs.declared.command.Params.{Params}
-use Rattle.tpm_commands.specs.declared.response.ReplyBody.{ReplyBody}
+use Rattle.tpm_commands.specs.declared.command.ReplyBody.{ReplyBody}
 use Rattle.tpm_commands.specs.Events.{event_bytes}
 use Rattle.tpm_commands.specs.Row.{Row, named}
 use Rattle.tpm_commands.specs.declared.command.Params.TheVariants as params
-use Rattle.tpm_commands.specs.declared.response.ReplyBody.TheVariants as replies
+use Rattle.tpm_commands.specs.declared.command.ReplyBody.TheVariants as replies
 
 -- ---- TPM2_PCR_Extend (22.2)
 

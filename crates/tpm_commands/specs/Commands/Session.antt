@@ -17,10 +17,10 @@ use Rattle.tpm_types.specs.Tpmt.{sym_def}
 use Rattle.tpm_types.specs.declared.tpmt.SymDef.TheVariants as symmetrics
 use Rattle.tpm_commands.specs.declared.command_handles.HandleKind.TheVariants.{Null, OwnerOrNull, Policy}
 use Rattle.tpm_commands.specs.declared.command.Params.{Params}
-use Rattle.tpm_commands.specs.declared.response.ReplyBody.{ReplyBody}
+use Rattle.tpm_commands.specs.declared.command.ReplyBody.{ReplyBody}
 use Rattle.tpm_commands.specs.Row.{Row, Field, named, first}
 use Rattle.tpm_commands.specs.declared.command.Params.TheVariants as params
-use Rattle.tpm_commands.specs.declared.response.ReplyBody.TheVariants as replies
+use Rattle.tpm_commands.specs.declared.command.ReplyBody.TheVariants as replies
 
 -- ---- TPM2_StartAuthSession (11.1)
 

@@ -9,7 +9,7 @@ use Rattle.tpm_types.specs.Constants.{startup_type}
 use Rattle.tpm_commands.specs.declared.command.Params.{Params}
 use Rattle.tpm_commands.specs.Row.{Row, named}
 use Rattle.tpm_commands.specs.declared.command.Params.TheVariants as params
-use Rattle.tpm_commands.specs.declared.response.ReplyBody.TheVariants as replies
+use Rattle.tpm_commands.specs.declared.command.ReplyBody.TheVariants as replies
 
 -- ---- TPM2_Startup (9.3)
 

@@ -1,28 +1,21 @@
 //! The commands of non-volatile storage (Part 3, 31).
 
-ghost use Rattle.std.specs.Prelude.{◌≡◌, ◌≤◌, ◌+◌, ◌++◌, length, ℕ, None, OnOk};
+ghost use Rattle.std.specs.Prelude.{◌≡◌, ◌≤◌, ◌+◌, ◌++◌, length, ℕ, None, IfOk, OnOk};
 ghost use Rattle.tpm_wire.specs.Spelling.{spelling, Fits};
 ghost use Rattle.tpm_wire.specs.Buffers.{TakesNumbered};
 ghost use Rattle.tpm_commands.specs.Limits.{most_params, most_reply_params};
 ghost use Rattle.tpm_types.specs.declared.command_code.CommandCode.TheVariants as codes;
 ghost use Rattle.tpm_commands.specs.declared.command.Params.TheVariants as params;
-ghost use Rattle.tpm_commands.specs.declared.response.ReplyBody.TheVariants as replies;
-ghost use Rattle.tpm_commands.specs.Parameters.{nv_define_space, nv_read};
-ghost use Rattle.tpm_commands.specs.Replies.{nv_read_reply, nv_read_public_reply, IsReplyTo};
+ghost use Rattle.tpm_commands.specs.declared.command.ReplyBody.TheVariants as replies;
+ghost use Rattle.tpm_commands.specs.Commands.Nv.{nv_define_space, nv_read, nv_read_public_reply};
+ghost use Rattle.tpm_commands.specs.Replies.{IsReplyTo};
 
-use crate::command_handles::HandleKind;
-use crate::commands::Row;
-use crate::response::{NvData, ReplyBody};
-use tpm_types::{Alg, AuthValue, Digest, Name, NvAttrs, NvIndex, NvPublic};
+use crate::command::ReplyBody;
+use tpm_types::{AuthValue, Name, NvPublic};
 use tpm_wire::response_code::of_parameter;
 use tpm_wire::{Cursor, Refusal, Room, Wire};
 
 // ---- TPM2_NV_DefineSpace (31.3)
-
-pub(crate) const NV_DEFINE_SPACE: Row = Row {
-    handles: &[HandleKind::Owner],
-    needs_authorization: true,
-};
 
 /// The parameters of TPM2_NV_DefineSpace.
 #[derive(Drop)]
@@ -31,36 +24,20 @@ pub struct NvDefineSpace {
     pub public: NvPublic,
 }
 
-#[tactic(auto, unfolding(crate::specs::Parameters::nv_define_space))]
+#[tactic(auto, unfolding(crate::specs::Commands::Nv::nv_define_space))]
 impl NvDefineSpace {
-    // One that another is read in the place of.
-    pub(crate) fn any() -> Self {
-        match (NvIndex::from_number(0x01000000), NvAttrs::from_number(0)) {
-            (Some(index), Some(attrs)) => NvDefineSpace {
-                auth: AuthValue::default(),
-                public: NvPublic {
-                    index,
-                    alg: Alg::default(),
-                    attrs,
-                    policy: Digest::default(),
-                    data_size: 0,
-                },
-            },
-            _ => unreachable!(),
-        }
-    }
-
-    pub(crate) fn read(&mut self, cursor: &mut Cursor<'_>) -> Result<(), Refusal>
-        ensures reads { TakesNumbered (λ _. params.NvDefineSpace self.new) nv_define_space
+    pub(crate) fn take(cursor: &mut Cursor<'_>) -> Result<Self, Refusal>
+        ensures reads { TakesNumbered (λ p. params.NvDefineSpace p) nv_define_space
             cursor.old cursor.new result }
-        ensures spelled { OnOk result
-            (cursor.old.here.rest
-            ≡ spelling nv_define_space (params.NvDefineSpace self.new) ++ cursor.new.here.rest) }
+        ensures spelled { IfOk result
+            (λ p. cursor.old.here.rest
+            ≡ spelling nv_define_space (params.NvDefineSpace p) ++ cursor.new.here.rest) }
     {
         cursor.number(of_parameter(1));
-        self.auth.read(cursor)?;
+        let auth = AuthValue::take(cursor)?;
         cursor.number(of_parameter(2));
-        self.public.read(cursor)
+        let public = NvPublic::take(cursor)?;
+        Ok(NvDefineSpace { auth, public })
     }
 
     #[inline(always)]
@@ -87,21 +64,9 @@ impl NvDefineSpace {
     }
 }
 
-// ---- TPM2_NV_UndefineSpace (31.4)
-
-pub(crate) const NV_UNDEFINE_SPACE: Row = Row {
-    handles: &[HandleKind::Owner, HandleKind::Index],
-    needs_authorization: true,
-};
-
 // ---- TPM2_NV_ReadPublic (31.6)
 
-pub(crate) const NV_READ_PUBLIC: Row = Row {
-    handles: &[HandleKind::Index],
-    needs_authorization: false,
-};
-
-#[tactic(auto, unfolding(crate::specs::Replies::nv_read_public_reply))]
+#[tactic(auto, unfolding(crate::specs::Commands::Nv::nv_read_public_reply))]
 pub(crate) fn read_nv_read_public_reply(
     cursor: &mut Cursor<'_>,
     body: &mut ReplyBody,
@@ -120,7 +85,7 @@ pub(crate) fn read_nv_read_public_reply(
     Ok(())
 }
 
-#[tactic(auto, unfolding(crate::specs::Replies::nv_read_public_reply))]
+#[tactic(auto, unfolding(crate::specs::Commands::Nv::nv_read_public_reply))]
 #[inline(always)]
 pub(crate) fn nv_read_public_reply_len(public: &NvPublic, name: &Name) -> usize
     ensures value { result
@@ -134,7 +99,7 @@ pub(crate) fn nv_read_public_reply_len(public: &NvPublic, name: &Name) -> usize
     public.len() + name.len()
 }
 
-#[tactic(auto, unfolding(crate::specs::Replies::nv_read_public_reply))]
+#[tactic(auto, unfolding(crate::specs::Commands::Nv::nv_read_public_reply))]
 #[inline(always)]
 pub(crate) fn put_nv_read_public_reply<R: Room>(public: &NvPublic, name: &Name, out: &mut R)
     requires { length (R.written out.old)
@@ -148,19 +113,7 @@ pub(crate) fn put_nv_read_public_reply<R: Room>(public: &NvPublic, name: &Name, 
     name.put(out);
 }
 
-// ---- TPM2_NV_Increment (31.8)
-
-pub(crate) const NV_INCREMENT: Row = Row {
-    handles: &[HandleKind::OwnerOrIndex, HandleKind::Index],
-    needs_authorization: true,
-};
-
 // ---- TPM2_NV_Read (31.13)
-
-pub(crate) const NV_READ: Row = Row {
-    handles: &[HandleKind::OwnerOrIndex, HandleKind::Index],
-    needs_authorization: true,
-};
 
 /// The parameters of TPM2_NV_Read.
 #[derive(Clone, Copy, Drop)]
@@ -169,26 +122,21 @@ pub struct NvRead {
     pub offset: u16,
 }
 
-#[tactic(auto, unfolding(crate::specs::Parameters::nv_read))]
+#[tactic(auto, unfolding(crate::specs::Commands::Nv::nv_read))]
 impl NvRead {
-    /// Parameters that others are read in the place of.
-    pub fn any() -> Self {
-        NvRead { size: 0, offset: 0 }
-    }
-
-    /// Reads the parameters in the place of others, or answers their first fault: INSUFFICIENT with the parameter's
-    /// number. What stands there then is not said.
-    pub fn read(&mut self, cursor: &mut Cursor<'_>) -> Result<(), Refusal>
-        ensures reads { TakesNumbered (λ _. params.NvRead self.new) nv_read
+    /// The parameters that are read, or their first fault: INSUFFICIENT with the parameter's number.
+    pub fn take(cursor: &mut Cursor<'_>) -> Result<Self, Refusal>
+        ensures reads { TakesNumbered (λ p. params.NvRead p) nv_read
             cursor.old cursor.new result }
-        ensures spelled { OnOk result
-            (cursor.old.here.rest
-            ≡ spelling nv_read (params.NvRead self.new) ++ cursor.new.here.rest) }
+        ensures spelled { IfOk result
+            (λ p. cursor.old.here.rest
+            ≡ spelling nv_read (params.NvRead p) ++ cursor.new.here.rest) }
     {
         cursor.number(of_parameter(1));
-        self.size.read(cursor)?;
+        let size = u16::take(cursor)?;
         cursor.number(of_parameter(2));
-        self.offset.read(cursor)
+        let offset = u16::take(cursor)?;
+        Ok(NvRead { size, offset })
     }
 
     #[inline(always)]
@@ -212,19 +160,4 @@ impl NvRead {
         self.size.put(out);
         self.offset.put(out);
     }
-}
-
-#[tactic(auto, unfolding(crate::specs::Replies::nv_read_reply))]
-pub(crate) fn read_nv_read_reply(
-    cursor: &mut Cursor<'_>,
-    body: &mut ReplyBody,
-) -> Result<(), Refusal>
-    ensures reads { TakesNumbered (λ _. body.new) nv_read_reply cursor.old cursor.new result }
-    ensures spelled { OnOk result
-        (cursor.old.here.rest ≡ spelling nv_read_reply body.new ++ cursor.new.here.rest) }
-    ensures own { OnOk result (IsReplyTo codes.NvRead None body.new) }
-{
-    cursor.number(of_parameter(1));
-    *body = ReplyBody::NvRead(NvData::take(cursor)?);
-    Ok(())
 }

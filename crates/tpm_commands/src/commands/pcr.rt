@@ -6,28 +6,20 @@ ghost use Rattle.tpm_wire.specs.Buffers.{TakesNumbered};
 ghost use Rattle.tpm_commands.specs.Limits.{most_reply_params};
 ghost use Rattle.tpm_types.specs.declared.command_code.CommandCode.TheVariants as codes;
 ghost use Rattle.tpm_commands.specs.declared.command.Params.TheVariants as params;
-ghost use Rattle.tpm_commands.specs.declared.response.ReplyBody.TheVariants as replies;
-ghost use Rattle.tpm_commands.specs.Parameters.{pcr_extend};
-ghost use Rattle.tpm_commands.specs.Replies.{code_for_reply, pcr_event_reply, pcr_read_reply, IsReplyTo};
+ghost use Rattle.tpm_commands.specs.declared.command.ReplyBody.TheVariants as replies;
+ghost use Rattle.tpm_commands.specs.Commands.Pcr.{pcr_extend, pcr_read_reply};
+ghost use Rattle.tpm_commands.specs.Replies.{code_for_reply, IsReplyTo};
 
-use crate::command_handles::HandleKind;
-use crate::commands::Row;
-use crate::lent::Event;
-use crate::response::ReplyBody;
+use crate::command::ReplyBody;
 use tpm_types::{DigestValues, Digests, Selections};
 use tpm_wire::response_code::of_parameter;
 use tpm_wire::{Cursor, Refusal, Room, Wire};
 
 // ---- TPM2_PCR_Extend (22.2)
 
-pub(crate) const PCR_EXTEND: Row = Row {
-    handles: &[HandleKind::PcrOrNull],
-    needs_authorization: true,
-};
-
 /// Reads the digests of TPM2_PCR_Extend in the place of others, or answers their first fault: INSUFFICIENT, SIZE or
 /// HASH with the parameter's number. What stands there then is not said.
-#[tactic(auto, unfolding(crate::specs::Parameters::pcr_extend))]
+#[tactic(auto, unfolding(crate::specs::Commands::Pcr::pcr_extend))]
 pub fn read_pcr_extend(cursor: &mut Cursor<'_>, digests: &mut DigestValues) -> Result<(), Refusal>
     ensures reads { TakesNumbered (λ _. params.PcrExtend digests.new) pcr_extend
         cursor.old cursor.new result }
@@ -39,42 +31,7 @@ pub fn read_pcr_extend(cursor: &mut Cursor<'_>, digests: &mut DigestValues) -> R
     digests.read(cursor)
 }
 
-// ---- TPM2_PCR_Event (22.3)
-
-pub(crate) const PCR_EVENT: Row = Row {
-    handles: &[HandleKind::PcrOrNull],
-    needs_authorization: true,
-};
-
-/// An event that another one is read in the place of.
-pub(crate) fn any_event<'a>() -> Event<'a> {
-    match Event::new(&[]) {
-        Some(event) => event,
-        None => unreachable!(),
-    }
-}
-
-#[tactic(auto, unfolding(crate::specs::Replies::pcr_event_reply))]
-pub(crate) fn read_pcr_event_reply(
-    cursor: &mut Cursor<'_>,
-    body: &mut ReplyBody,
-) -> Result<(), Refusal>
-    ensures reads { TakesNumbered (λ _. body.new) pcr_event_reply cursor.old cursor.new result }
-    ensures spelled { OnOk result
-        (cursor.old.here.rest ≡ spelling pcr_event_reply body.new ++ cursor.new.here.rest) }
-    ensures own { OnOk result (IsReplyTo codes.PcrEvent None body.new) }
-{
-    cursor.number(of_parameter(1));
-    *body = ReplyBody::PcrEvent(DigestValues::take(cursor)?);
-    Ok(())
-}
-
 // ---- TPM2_PCR_Read (22.4)
-
-pub(crate) const PCR_READ: Row = Row {
-    handles: &[],
-    needs_authorization: false,
-};
 
 // Makes it a reply to a PCR_Read, which another one is read in the place of. One that is there stays, since it is the
 // largest reply and costs as many stores to make.
@@ -91,7 +48,7 @@ fn begin_pcr_read(body: &mut ReplyBody)
     }
 }
 
-#[tactic(auto, unfolding(crate::specs::Replies::pcr_read_reply))]
+#[tactic(auto, unfolding(crate::specs::Commands::Pcr::pcr_read_reply))]
 pub(crate) fn read_pcr_read_reply(
     cursor: &mut Cursor<'_>,
     body: &mut ReplyBody,
@@ -119,7 +76,7 @@ pub(crate) fn read_pcr_read_reply(
     }
 }
 
-#[tactic(auto, unfolding(crate::specs::Replies::pcr_read_reply))]
+#[tactic(auto, unfolding(crate::specs::Commands::Pcr::pcr_read_reply))]
 #[inline(always)]
 pub(crate) fn pcr_read_reply_len(
     update_counter: u32,
@@ -139,7 +96,7 @@ pub(crate) fn pcr_read_reply_len(
     update_counter.len() + selections.len() + digests.len()
 }
 
-#[tactic(auto, unfolding(crate::specs::Replies::pcr_read_reply))]
+#[tactic(auto, unfolding(crate::specs::Commands::Pcr::pcr_read_reply))]
 #[inline(always)]
 pub(crate) fn put_pcr_read_reply<R: Room>(
     update_counter: u32,
@@ -160,10 +117,3 @@ pub(crate) fn put_pcr_read_reply<R: Room>(
     selections.put(out);
     digests.put(out);
 }
-
-// ---- TPM2_PCR_Reset (22.8)
-
-pub(crate) const PCR_RESET: Row = Row {
-    handles: &[HandleKind::Pcr],
-    needs_authorization: true,
-};

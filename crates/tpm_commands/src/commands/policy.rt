@@ -1,42 +1,17 @@
 //! The commands of policies (Part 3, 23).
 
-ghost use Rattle.std.specs.Prelude.{◌≡◌, ◌≤◌, ◌+◌, ◌++◌, length, ℕ, None, OnOk};
+ghost use Rattle.std.specs.Prelude.{◌≡◌, ◌≤◌, ◌+◌, ◌++◌, length, ℕ, IfOk};
 ghost use Rattle.tpm_wire.specs.Spelling.{spelling, Fits};
 ghost use Rattle.tpm_wire.specs.Buffers.{TakesNumbered};
 ghost use Rattle.tpm_commands.specs.Limits.{most_params};
-ghost use Rattle.tpm_types.specs.declared.command_code.CommandCode.TheVariants as codes;
 ghost use Rattle.tpm_commands.specs.declared.command.Params.TheVariants as params;
-ghost use Rattle.tpm_commands.specs.Parameters.{policy_pcr};
-ghost use Rattle.tpm_commands.specs.Replies.{policy_get_digest_reply, IsReplyTo};
+ghost use Rattle.tpm_commands.specs.Commands.Policy.{policy_pcr};
 
-use crate::command_handles::HandleKind;
-use crate::commands::Row;
-use crate::response::ReplyBody;
-use tpm_types::{Digest, OrDigests, Selections};
+use tpm_types::{Digest, Selections};
 use tpm_wire::response_code::of_parameter;
 use tpm_wire::{Cursor, Refusal, Room, Wire};
 
-// ---- TPM2_PolicyOR (23.6)
-
-pub(crate) const POLICY_OR: Row = Row {
-    handles: &[HandleKind::Policy],
-    needs_authorization: false,
-};
-
-/// Digests that others are read in the place of.
-pub(crate) fn any_digests() -> OrDigests {
-    match OrDigests::new(&[Digest::default(), Digest::default()]) {
-        Some(digests) => digests,
-        None => unreachable!(),
-    }
-}
-
 // ---- TPM2_PolicyPCR (23.7)
-
-pub(crate) const POLICY_PCR: Row = Row {
-    handles: &[HandleKind::Policy],
-    needs_authorization: false,
-};
 
 /// The parameters of TPM2_PolicyPCR.
 #[derive(Drop)]
@@ -45,27 +20,23 @@ pub struct PolicyPcr {
     pub selections: Selections,
 }
 
-#[tactic(auto, unfolding(crate::specs::Parameters::policy_pcr))]
+#[tactic(auto, unfolding(crate::specs::Commands::Policy::policy_pcr))]
 impl PolicyPcr {
-    // One that another is read in the place of.
-    pub(crate) fn any() -> Self {
-        PolicyPcr {
-            pcr_digest: Digest::default(),
-            selections: Selections::default(),
-        }
-    }
-
-    pub(crate) fn read(&mut self, cursor: &mut Cursor<'_>) -> Result<(), Refusal>
-        ensures reads { TakesNumbered (λ _. params.PolicyPcr self.new) policy_pcr
+    pub(crate) fn take(cursor: &mut Cursor<'_>) -> Result<Self, Refusal>
+        ensures reads { TakesNumbered (λ p. params.PolicyPcr p) policy_pcr
             cursor.old cursor.new result }
-        ensures spelled { OnOk result
-            (cursor.old.here.rest
-            ≡ spelling policy_pcr (params.PolicyPcr self.new) ++ cursor.new.here.rest) }
+        ensures spelled { IfOk result
+            (λ p. cursor.old.here.rest
+            ≡ spelling policy_pcr (params.PolicyPcr p) ++ cursor.new.here.rest) }
     {
         cursor.number(of_parameter(1));
-        self.pcr_digest.read(cursor)?;
+        let pcr_digest = Digest::take(cursor)?;
         cursor.number(of_parameter(2));
-        self.selections.read(cursor)
+        let selections = Selections::take(cursor)?;
+        Ok(PolicyPcr {
+            pcr_digest,
+            selections,
+        })
     }
 
     #[inline(always)]
@@ -90,41 +61,4 @@ impl PolicyPcr {
         self.pcr_digest.put(out);
         self.selections.put(out);
     }
-}
-
-// ---- TPM2_PolicyCommandCode (23.11)
-
-pub(crate) const POLICY_COMMAND_CODE: Row = Row {
-    handles: &[HandleKind::Policy],
-    needs_authorization: false,
-};
-
-// ---- TPM2_PolicyAuthValue (23.17)
-
-pub(crate) const POLICY_AUTH_VALUE: Row = Row {
-    handles: &[HandleKind::Policy],
-    needs_authorization: false,
-};
-
-// ---- TPM2_PolicyGetDigest (23.19)
-
-pub(crate) const POLICY_GET_DIGEST: Row = Row {
-    handles: &[HandleKind::Policy],
-    needs_authorization: false,
-};
-
-#[tactic(auto, unfolding(crate::specs::Replies::policy_get_digest_reply))]
-pub(crate) fn read_policy_get_digest_reply(
-    cursor: &mut Cursor<'_>,
-    body: &mut ReplyBody,
-) -> Result<(), Refusal>
-    ensures reads { TakesNumbered (λ _. body.new) policy_get_digest_reply
-        cursor.old cursor.new result }
-    ensures spelled { OnOk result
-        (cursor.old.here.rest ≡ spelling policy_get_digest_reply body.new ++ cursor.new.here.rest) }
-    ensures own { OnOk result (IsReplyTo codes.PolicyGetDigest None body.new) }
-{
-    cursor.number(of_parameter(1));
-    *body = ReplyBody::PolicyGetDigest(Digest::take(cursor)?);
-    Ok(())
 }

@@ -5,24 +5,19 @@ ghost use Rattle.tpm_wire.specs.Spelling.{spelling, Fits};
 ghost use Rattle.tpm_wire.specs.Buffers.{TakesNumbered};
 ghost use Rattle.tpm_commands.specs.Limits.{most_params, most_reply_params};
 ghost use Rattle.tpm_types.specs.declared.command_code.CommandCode.TheVariants as codes;
+ghost use Rattle.tpm_types.specs.declared.constants.SessionType.TheVariants.{Hmac};
 ghost use Rattle.tpm_commands.specs.declared.command.Params.TheVariants as params;
-ghost use Rattle.tpm_commands.specs.declared.response.ReplyBody.TheVariants as replies;
-ghost use Rattle.tpm_commands.specs.Parameters.{start_auth_session};
-ghost use Rattle.tpm_commands.specs.Replies.{session_handle, start_auth_session_reply, IsReplyTo};
+ghost use Rattle.tpm_commands.specs.declared.command.ReplyBody.TheVariants as replies;
+ghost use Rattle.tpm_commands.specs.Commands.Session.{start_auth_session, session_handle, start_auth_session_reply};
+ghost use Rattle.tpm_commands.specs.Replies.{IsReplyTo};
 
-use crate::command_handles::HandleKind;
-use crate::commands::Row;
-use crate::response::{ReplyBody, StartReply};
+use crate::command::ReplyBody;
+use crate::response::StartReply;
 use tpm_types::{Alg, EncryptedSalt, Nonce, SessionHandle, SessionType, SymDef};
 use tpm_wire::response_code::{of_handle, of_parameter};
 use tpm_wire::{Cursor, Duplicate, Refusal, Room, Wire};
 
 // ---- TPM2_StartAuthSession (11.1)
-
-pub(crate) const START_AUTH_SESSION: Row = Row {
-    handles: &[HandleKind::Null, HandleKind::OwnerOrNull],
-    needs_authorization: false,
-};
 
 /// The parameters of TPM2_StartAuthSession. The salt is empty.
 #[derive(Drop)]
@@ -33,10 +28,13 @@ pub struct StartParams {
     pub auth_hash: Alg,
 }
 
-#[tactic(auto, unfolding(crate::specs::Parameters::start_auth_session))]
+#[tactic(auto, unfolding(crate::specs::Commands::Session::start_auth_session))]
 impl StartParams {
     /// Parameters that others are read in the place of: no nonce, for an HMAC session.
-    pub fn any() -> Self {
+    pub fn any() -> Self
+        ensures nonce { result.nonce_caller ≡ [] }
+        ensures session_type { result.session_type ≡ Hmac }
+    {
         StartParams {
             nonce_caller: Nonce::default(),
             session_type: SessionType::Hmac,
@@ -63,6 +61,18 @@ impl StartParams {
         self.symmetric.read(cursor)?;
         cursor.number(of_parameter(5));
         self.auth_hash.read(cursor)
+    }
+
+    pub(crate) fn take(cursor: &mut Cursor<'_>) -> Result<Self, Refusal>
+        ensures reads { TakesNumbered (λ p. params.StartAuthSession p) start_auth_session
+            cursor.old cursor.new result }
+        ensures spelled { IfOk result
+            (λ p. cursor.old.here.rest
+            ≡ spelling start_auth_session (params.StartAuthSession p) ++ cursor.new.here.rest) }
+    {
+        let mut start = StartParams::any();
+        start.read(cursor)?;
+        Ok(start)
     }
 
     #[inline(always)]
@@ -114,7 +124,7 @@ impl Duplicate for StartParams {
 }
 
 /// The handle of the reply.
-#[tactic(auto, unfolding(crate::specs::Replies::session_handle, tpm_types::specs::Handles::session))]
+#[tactic(auto, unfolding(crate::specs::Commands::Session::session_handle, tpm_types::specs::Handles::session))]
 pub(crate) fn take_session_handle(cursor: &mut Cursor<'_>) -> Result<SessionHandle, Refusal>
     ensures reads { TakesNumbered (λ n. n ∷ []) session_handle cursor.old cursor.new result }
     ensures spelled { IfOk result
@@ -127,7 +137,7 @@ pub(crate) fn take_session_handle(cursor: &mut Cursor<'_>) -> Result<SessionHand
     Ok(session)
 }
 
-#[tactic(auto, unfolding(crate::specs::Replies::start_auth_session_reply))]
+#[tactic(auto, unfolding(crate::specs::Commands::Session::start_auth_session_reply))]
 pub(crate) fn read_start_auth_session_reply(
     cursor: &mut Cursor<'_>,
     session: SessionHandle,
@@ -146,7 +156,7 @@ pub(crate) fn read_start_auth_session_reply(
     Ok(())
 }
 
-#[tactic(auto, unfolding(crate::specs::Replies::start_auth_session_reply))]
+#[tactic(auto, unfolding(crate::specs::Commands::Session::start_auth_session_reply))]
 #[inline(always)]
 pub(crate) fn start_auth_session_reply_len(reply: &StartReply) -> usize
     ensures value { result
@@ -163,7 +173,7 @@ pub(crate) fn start_auth_session_reply_len(reply: &StartReply) -> usize
     reply.nonce_tpm.len()
 }
 
-#[tactic(auto, unfolding(crate::specs::Replies::start_auth_session_reply))]
+#[tactic(auto, unfolding(crate::specs::Commands::Session::start_auth_session_reply))]
 #[inline(always)]
 pub(crate) fn put_start_auth_session_reply<R: Room>(reply: &StartReply, out: &mut R)
     requires { length (R.written out.old)
@@ -178,10 +188,3 @@ pub(crate) fn put_start_auth_session_reply<R: Room>(reply: &StartReply, out: &mu
 {
     reply.nonce_tpm.put(out);
 }
-
-// ---- TPM2_PolicyRestart (11.2)
-
-pub(crate) const POLICY_RESTART: Row = Row {
-    handles: &[HandleKind::Policy],
-    needs_authorization: false,
-};

@@ -3,7 +3,7 @@ use Rattle.std.specs.Prelude.{◌≡◌, ℕ, true, List, [], ◌∷◌, Result,
 use Rattle.tpm_wire.specs.Reading.{read_all, ◌>>=◌}
 use Rattle.tpm_commands.specs.declared.command.CommandBody.{CommandBody}
 use Rattle.tpm_commands.specs.declared.command.Params.{Params}
-use Rattle.tpm_commands.specs.declared.response.ReplyBody.{ReplyBody}
+use Rattle.tpm_commands.specs.declared.command.ReplyBody.{ReplyBody}
 use Rattle.tpm_commands.specs.Handles.{needs_authorization}
 use Rattle.tpm_commands.specs.Parameters.{parameters, params_code}
 use Rattle.tpm_buffer.specs.CommandAreas.{Cut}

@@ -31,7 +31,7 @@ returns-in_err-read-clause-reads c =
     let p = err_from_is_err_and c.from_residual-in_err-read.result c.from_residual-in_err-read.ensures.1 in
     let before : read 0 before_params (at_start c.args.bytes.now) ≡ Ok (checked a, h) =
     ap (λ (p : Place). read 0 before_params p.here) (sym c.new-cursor.ensures) ∙ c.in_ok-header.ensures.reads in
-    let bad : read 0 (parameters a.header.code) h ≡ Err e = rw c.begin.ensures at c.in_err-read.ensures.reads in
+    let bad : read 0 (parameters a.header.code) h ≡ Err e = c.in_err-read.ensures.reads in
     rw (p.1, p.2) (params_fault c.args.bytes.now (checked a) h e before bad)
 
 pub returns-in_err-end-clause-reads : goal.returns-in_err-end-clause-reads
@@ -42,7 +42,7 @@ returns-in_err-end-clause-reads c =
     let p = err_from_is_err_and c.from_residual-in_err-end.result c.from_residual-in_err-end.ensures.1 in
     let before : read 0 before_params (at_start c.args.bytes.now) ≡ Ok (checked a, h) =
     ap (λ (p : Place). read 0 before_params p.here) (sym c.new-cursor.ensures) ∙ c.in_ok-header.ensures.reads in
-    let good : read 0 (parameters a.header.code) h ≡ Ok (params_of c.read.new.self, g) = rw c.begin.ensures at c.in_ok-read.ensures.reads in
+    let good : read 0 (parameters a.header.code) h ≡ Ok (params_of c.read.new.self, g) = c.in_ok-read.ensures.reads in
     let more : eqb (length g.rest) 0 ≡ false = ne_eqb (length g.rest) 0 (λ e. omega (arith, e, c.in_err-end.ensures.0)) in
     rw (p.1, p.2, c.in_err-end.ensures.1) (left_over c.args.bytes.now (checked a) h g (params_of c.read.new.self) before good more)
 
@@ -54,7 +54,7 @@ returns-clause-reads c =
     let g = c.read.new.cursor.here in
     let before : read 0 before_params (at_start c.args.bytes.now) ≡ Ok (checked a, h) =
     ap (λ (p : Place). read 0 before_params p.here) (sym c.new-cursor.ensures) ∙ c.in_ok-header.ensures.reads in
-    let good : read 0 (parameters a.header.code) h ≡ Ok (p, g) = rw c.begin.ensures at c.in_ok-read.ensures.reads in
+    let good : read 0 (parameters a.header.code) h ≡ Ok (p, g) = c.in_ok-read.ensures.reads in
     let none : eqb (length g.rest) 0 ≡ true = eq-eqb (length g.rest) 0 c.in_ok-end.ensures in
     let body = c.in_ok-read.ensures.body ∙ ap (λ (ns : List ℕ). body_from ns p) c.as_slice.ensures.value in
     rw body (command_is c.args.bytes.now (checked a) h g p before good none)
@@ -68,9 +68,9 @@ returns-clause-spelled c =
     let p = params_of c.read.new.self in
     let g = c.read.new.cursor.here in
     let none : g.rest ≡ [] = nil_from_length g.rest c.in_ok-end.ensures in
-    let code = c.in_ok-read.ensures.code ∙ c.begin.ensures in
+    let code = c.in_ok-read.ensures.code in
     let params : h.rest ≡ spelling (parameters a.header.code) p =
-    (rw c.begin.ensures at c.in_ok-read.ensures.spelled)
+    c.in_ok-read.ensures.spelled
     ∙ ap (λ (r : List ℕ). spelling (parameters a.header.code) p ++ r) none
     ∙ append-nil (spelling (parameters a.header.code) p) in
     let text =

@@ -8,10 +8,12 @@ use Rattle.tpm_types.specs.Tpm2b.{encrypted_salt}
 use Rattle.tpm_types.specs.Tpms.{selection, auth_command, auth_response, nv_public_area, nv_public}
 use Rattle.tpm_types.specs.Tpmt.{digest_value, algorithm, mode, sym_def}
 use Rattle.tpm_types.specs.CommandCodes.{command_code}
-use Rattle.tpm_commands.specs.Parameters.{nv_define_space, startup, nv_read, flush_context, policy_command_code}
-use Rattle.tpm_commands.specs.Parameters.{policy_or, start_auth_session, pcr_read, policy_pcr, pcr_extend, pcr_event}
-use Rattle.tpm_commands.specs.Replies.{session_handle, nv_read_reply, nv_read_public_reply, start_auth_session_reply}
-use Rattle.tpm_commands.specs.Replies.{pcr_read_reply, policy_get_digest_reply}
+use Rattle.tpm_commands.specs.Commands.Nv.{nv_define_space, nv_read, nv_read_reply, nv_read_public_reply}
+use Rattle.tpm_commands.specs.Commands.Startup.{startup}
+use Rattle.tpm_commands.specs.Commands.Context.{flush_context}
+use Rattle.tpm_commands.specs.Commands.Policy.{policy_command_code, policy_or, policy_pcr, policy_get_digest_reply}
+use Rattle.tpm_commands.specs.Commands.Session.{start_auth_session, session_handle, start_auth_session_reply}
+use Rattle.tpm_commands.specs.Commands.Pcr.{pcr_read, pcr_extend, pcr_event, pcr_read_reply}
 use Rattle.tpm_buffer.specs.Commands.{tag, command_size, header, sessions, authorization_size, authorization}
 use Rattle.tpm_buffer.specs.Responses.{response_tag, response_front, response_code, further_sessions, reply_sessions}
 use Rattle.tpm_buffer.specs.Responses.{parameter_size, with_sessions, without_sessions, response}

@@ -1,6 +1,10 @@
 use Rattle.tpm_show.proofs.Pieces.{pieces}
-use Rattle.tpm_commands.specs.Parameters.{startup, nv_define_space, pcr_event, nv_read, flush_context, policy_or}
-use Rattle.tpm_commands.specs.Parameters.{start_auth_session, pcr_read, policy_pcr, pcr_extend}
+use Rattle.tpm_commands.specs.Commands.Startup.{startup}
+use Rattle.tpm_commands.specs.Commands.Nv.{nv_define_space, nv_read}
+use Rattle.tpm_commands.specs.Commands.Pcr.{pcr_event, pcr_read, pcr_extend}
+use Rattle.tpm_commands.specs.Commands.Context.{flush_context}
+use Rattle.tpm_commands.specs.Commands.Policy.{policy_or, policy_pcr}
+use Rattle.tpm_commands.specs.Commands.Session.{start_auth_session}
 use Rattle.tpm_show.proofs.fields.tell_command_fields.Goals as goal
 
 pub returns-in_ok-tell-in-NvDefineSpace : goal.returns-in_ok-tell-in-NvDefineSpace

@@ -1,6 +1,8 @@
 use Rattle.tpm_show.proofs.Pieces.{pieces}
-use Rattle.tpm_commands.specs.Replies.{pcr_event_reply, nv_read_reply, nv_read_public_reply, start_auth_session_reply}
-use Rattle.tpm_commands.specs.Replies.{pcr_read_reply, policy_get_digest_reply}
+use Rattle.tpm_commands.specs.Commands.Pcr.{pcr_event_reply, pcr_read_reply}
+use Rattle.tpm_commands.specs.Commands.Nv.{nv_read_reply, nv_read_public_reply}
+use Rattle.tpm_commands.specs.Commands.Session.{start_auth_session_reply}
+use Rattle.tpm_commands.specs.Commands.Policy.{policy_get_digest_reply}
 use Rattle.tpm_show.proofs.fields.tell_reply_fields.Goals as goal
 
 pub returns-in-PcrEvent : goal.returns-in-PcrEvent

@@ -6,7 +6,7 @@ use Rattle.tpm_commands.specs.declared.command.CommandBody.{CommandBody}
 use Rattle.tpm_commands.specs.Handles.{first, second}
 use Rattle.tpm_commands.specs.declared.command.CommandBody.TheVariants as bodies
 use Rattle.tpm_commands.specs.declared.command.Params.TheVariants as params
-use Rattle.tpm_commands.specs.declared.response.ReplyBody.TheVariants as replies
+use Rattle.tpm_commands.specs.declared.command.ReplyBody.TheVariants as replies
 use Rattle.tpm_buffer.specs.Commands.{body_from, bind_in, index_in, nv_auth_in, policy_in}
 use Rattle.tpm_model.specs.Actions.{action}
 use Rattle.tpm_device.specs.Stands.{holds}

@@ -2,7 +2,7 @@ use Rattle.std.proofs.Common.{rules, ◌≡◌, ℕ, Err, refl, sym, ap, ◌∙�
 use Rattle.tpm_commands.specs.declared.command.CommandBody.TheVariants as bodies
 use Rattle.tpm_commands.specs.Handles.{first}
 use Rattle.tpm_commands.specs.declared.command.Params.TheVariants as params
-use Rattle.tpm_commands.specs.declared.response.ReplyBody.TheVariants as replies
+use Rattle.tpm_commands.specs.declared.command.ReplyBody.TheVariants as replies
 use Rattle.tpm_buffer.specs.Commands.{policy_in}
 use Rattle.tpm_device.specs.inner.Performing.{Begin}
 use Rattle.tpm_device.proofs.Acting.{body_done, body_refused, fault_refuses, asserting_needs_none}

@@ -1,6 +1,6 @@
 use Rattle.std.proofs.Common.{rules, ◌≡◌, Err, sym}
 use Rattle.tpm_commands.specs.declared.command.CommandBody.TheVariants as bodies
-use Rattle.tpm_commands.specs.declared.response.ReplyBody.TheVariants as replies
+use Rattle.tpm_commands.specs.declared.command.ReplyBody.TheVariants as replies
 use Rattle.tpm_device.specs.inner.Performing.{Begin}
 use Rattle.tpm_device.proofs.Acting.{body_done, body_refused, fault_refuses, starting_needs_none}
 use Rattle.tpm_device.proofs.Passing.{stays_authorized}

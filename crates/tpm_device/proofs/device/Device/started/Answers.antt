@@ -1,6 +1,6 @@
 use Rattle.std.proofs.Common.{[], refl, ap, ◌∙◌}
 use Rattle.tpm_commands.specs.declared.command.CommandBody.TheVariants as bodies
-use Rattle.tpm_commands.specs.declared.response.ReplyBody.TheVariants as replies
+use Rattle.tpm_commands.specs.declared.command.ReplyBody.TheVariants as replies
 use Rattle.tpm_buffer.specs.Commands.{with_auths}
 use Rattle.tpm_hmac.specs.Sessions.{trim}
 use Rattle.tpm_device.specs.inner.Actions.{Steps, step_of}
