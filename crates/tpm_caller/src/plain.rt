@@ -1,22 +1,19 @@
 //! A command as it is handed in to be sealed: without its sessions.
 
-ghost use Rattle.std.specs.Prelude.{◌≡◌, ◌≤◌, ◌+◌, ◌*◌, true, false, length, take, drop, Some, IfSome, OnOk, Err};
+ghost use Rattle.std.specs.Prelude.{◌≡◌, ◌≤◌, ◌+◌, ◌*◌, true, false, length, take, drop, Some, IfSome, Err};
 ghost use Rattle.tpm_wire.specs.declared.refusal.Refusal.{Refusal as RefusalOf};
-ghost use Rattle.tpm_wire.specs.Reading.{read_all, Gives};
-ghost use Rattle.tpm_wire.specs.Spelling.{spelling};
+ghost use Rattle.tpm_wire.specs.Reading.{read_all};
 ghost use Rattle.tpm_commands.specs.declared.command.CommandBody.{CommandBody as CommandBodyOf};
 ghost use Rattle.tpm_commands.specs.declared.command.Params.{Params};
-ghost use Rattle.tpm_commands.specs.Parameters.{parameters, params_code};
-ghost use Rattle.tpm_buffer.specs.Commands.{command as command_layout, params_of};
+ghost use Rattle.tpm_commands.specs.Parameters.{parameters};
+ghost use Rattle.tpm_buffer.specs.Commands.{command as command_layout};
 ghost use Rattle.tpm_caller.specs.Plain.{body_in, parts_in, PartsFit};
 ghost use Rattle.tpm_caller.specs.inner.Placing.{AreParams};
 
 use std::marker::Model;
 use tpm_buffer::areas;
-use tpm_commands::{CommandBody, CommandTable};
-use tpm_types::{CommandCode, StartupType};
-use tpm_wire::response_code::SIZE;
-use tpm_wire::{Cursor, Refusal};
+use tpm_commands::{CommandTable, decode_params};
+use tpm_types::CommandCode;
 
 // How many bytes a command's header has.
 const HEADER: usize = 10;
@@ -48,41 +45,16 @@ impl<'a> Model for Plain<'a> {
         × (length p.params.now ≤ most_params) };
 }
 
-// Reads the parameters of a command with this code in the place of others, or answers their first fault. Which handles
-// the command has is not said.
-fn read_params<'a>(
-    code: CommandCode,
-    bytes: &'a [u8],
-    body: &mut CommandBody<'a>,
-) -> Result<(), Refusal>
-    requires { length bytes.now ≤ 4096 }
-    ensures reads { Gives (λ _. params_of body.new) (read_all (parameters code) bytes.now) result }
-    ensures spelled { OnOk result (bytes.now ≡ spelling (parameters code) (params_of body.new)) }
-    ensures code { OnOk result (params_code (params_of body.new) ≡ code) }
-{
-    let mut cursor = Cursor::new(bytes);
-    body.read(&mut cursor, code, &[])?;
-    if cursor.left() > 0 {
-        return Err(Refusal {
-            code: SIZE,
-            at: cursor.at(),
-        });
-    }
-    Ok(())
-}
-
 // The bytes are the parameters of a command with this code, all of them. They are so few as a command's parameters can
 // be, which their value says. It is out of line, so that the value is off the stack again.
 #[inline(never)]
 fn are_params(code: CommandCode, bytes: &[u8]) -> bool
-    requires { length bytes.now ≤ 4096 }
     ensures yes { result ≡ true → (p : Params) × AreParams code bytes.now p }
     ensures no { result ≡ false
         → (e : RefusalOf) × (read_all (parameters code) bytes.now ≡ Err e) }
 {
-    let mut body = CommandBody::Startup(StartupType::Clear);
-    match read_params(code, bytes, &mut body) {
-        Ok(()) => body.params_len() <= PARAMS_BYTES,
+    match decode_params(code, bytes) {
+        Ok(params) => params.len() <= PARAMS_BYTES,
         Err(_) => false,
     }
 }

@@ -1,13 +1,16 @@
 -- Parameters that were read in their place, all of the bytes, are what the bytes are read as.
-use Rattle.std.proofs.Common.{◌≡◌, Bool, true, false, cond, eqb, leb, List, ℕ, length, take, Result, Ok, Err, refl, sym}
+use Rattle.std.proofs.Common.{◌≡◌, Bool, true, false, cond, eqb, leb, List, ◌++◌, ℕ, length, take, Result, Ok, Err, refl, sym}
 use Rattle.std.proofs.Common.{ap, ◌∙◌, arith}
-use Rattle.std.specs.Prelude.{◌&&◌}
+use Rattle.std.proofs.lemmas.Bool.{and_parts, eqb-true, leb-true}
+use Rattle.std.proofs.lemmas.List.{append-nil, nil_from_length, take_all}
+use Rattle.std.specs.Prelude.{◌&&◌, OnOk}
 use Rattle.tpm_wire.specs.declared.refusal.Refusal.{Refusal}
 use Rattle.tpm_wire.specs.Token.{Here, at_start}
 use Rattle.tpm_wire.specs.Reading.{read, read_all}
 use Rattle.tpm_wire.specs.Path.{Decodes}
 use Rattle.tpm_wire.specs.Buffers.{Place}
 use Rattle.tpm_wire.specs.WholeValues.{ended, left_over}
+use Rattle.tpm_wire.proofs.Agreement.{test_end}
 use Rattle.tpm_wire.proofs.Alone.{whole_read, whole_refused, whole_is, whole_decodes}
 use Rattle.tpm_types.specs.declared.command_code.CommandCode.{CommandCode}
 use Rattle.tpm_commands.specs.declared.command.Params.{Params}
@@ -50,3 +53,15 @@ pub judged : (code : CommandCode) (bytes : List ℕ) (o : Result Params Refusal)
 judged code bytes o is =
     whole_decodes 1100 (parameters code) (of_parameters code) (omega arith) bytes o
     (is ∙ sym (whole_is 1100 (parameters code) (of_parameters code) (omega arith) bytes))
+
+-- They are spelled by all of the bytes.
+pub all_spelled : (bytes text : List ℕ) (old : Place) (h : Here) (r : Result (Unit {0}) Refusal) → old ≡ begin bytes
+    → old.here.rest ≡ text ++ h.rest → r ≡ ended {A = Unit {0}} bytes (tt, h) → OnOk r (bytes ≡ text)
+all_spelled bytes text old h (Err e) begins is ends = tt
+all_spelled bytes text old h (Ok u) begins is ends =
+    let whole = and_parts _ _ (test_end ((eqb (length h.rest) 0) && leb (length bytes) 4096) (tt {0}) (left_over h) u (sym ends)).0 in
+    sym (take_all 4096 bytes (leb-true (length bytes) 4096 whole.1))
+    ∙ ap (λ (q : Place). q.here.rest) (sym begins)
+    ∙ is
+    ∙ ap (λ (l : List ℕ). text ++ l) (nil_from_length h.rest (eqb-true (length h.rest) 0 whole.0))
+    ∙ append-nil text

@@ -3,6 +3,7 @@
 ghost use Rattle.std.specs.Prelude.{◌≡◌, IfOk, OnOk};
 ghost use Rattle.tpm_wire.specs.Path.{Decodes};
 ghost use Rattle.tpm_wire.specs.Reading.{read_all};
+ghost use Rattle.tpm_wire.specs.Spelling.{spelling};
 ghost use Rattle.tpm_types.specs.declared.command_code.CommandCode.TheVariants as codes;
 ghost use Rattle.tpm_commands.specs.declared.command.Params.TheVariants as params;
 ghost use Rattle.tpm_commands.specs.Parameters.{parameters, params_code, placed};
@@ -18,6 +19,7 @@ use tpm_wire::{Cursor, Refusal};
 pub fn decode_params(code: CommandCode, bytes: &[u8]) -> Result<Params<'_>, Refusal>
     ensures decodes { Decodes (parameters code) (λ p. p) bytes.now result }
     ensures reads { result ≡ read_all (parameters code) bytes.now }
+    ensures spelled { IfOk result (λ p. bytes.now ≡ spelling (parameters code) p) }
     ensures code { IfOk result (λ p. params_code p ≡ code) }
 {
     let mut params = Params::PolicyRestart;
@@ -33,6 +35,7 @@ pub fn decode_params_into<'a>(
 ) -> Result<(), Refusal>
     ensures decodes { Decodes (parameters code) (λ p. p) bytes.now (placed params.new result) }
     ensures reads { placed params.new result ≡ read_all (parameters code) bytes.now }
+    ensures spelled { OnOk result (bytes.now ≡ spelling (parameters code) params.new) }
     ensures code { OnOk result (params_code params.new ≡ code) }
 {
     let mut cursor = Cursor::of_whole(bytes);

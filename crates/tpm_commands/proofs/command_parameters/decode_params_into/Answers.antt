@@ -1,11 +1,16 @@
 use Rattle.std.proofs.lemmas.Result.{err_from_is_err_and}
-use Rattle.tpm_commands.proofs.WholeParams.{all_read, refused, judged}
+use Rattle.tpm_commands.proofs.WholeParams.{all_read, all_spelled, refused, judged}
 use Rattle.tpm_commands.proofs.command_parameters.decode_params_into.Goals as goal
 
 pub returns-clause-reads : goal.returns-clause-reads
 returns-clause-reads c =
     all_read c.args.code c.args.bytes.now c.of_whole-cursor.result c.read.new.self c.read.new.cursor.here
     c.end_of_whole.result c.of_whole-cursor.ensures c.in_ok-read.ensures.reads c.end_of_whole.ensures
+
+pub returns-clause-spelled : goal.returns-clause-spelled
+returns-clause-spelled c =
+    all_spelled c.args.bytes.now _ c.of_whole-cursor.result c.read.new.cursor.here c.end_of_whole.result
+    c.of_whole-cursor.ensures c.in_ok-read.ensures.spelled c.end_of_whole.ensures
 
 pub returns-clause-decodes : goal.returns-clause-decodes
 returns-clause-decodes c = judged c.args.code c.args.bytes.now _ (returns-clause-reads c)
