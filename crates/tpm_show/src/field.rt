@@ -7,9 +7,13 @@ ghost use Rattle.tpm_show.specs.Pieces.{Piece};
 
 use crate::field_text::{begin_structure, end_structure, tell_value};
 use crate::teller::Teller;
+use arrayvec::ArrayVec;
 use std::marker::Model;
 use tpm_output::text::Pushed;
-use tpm_wire::{Buffer, Wire};
+use tpm_wire::Wire;
+
+// More bytes than any field has but an event.
+const FIELD_BYTES: usize = 512;
 
 /// A value of which the parts are told under it.
 pub(crate) trait HasParts: Wire {
@@ -39,11 +43,11 @@ impl Model for Field {
     ghost view = { λ f. record { indent = f.0.now; named = named f.1.now f.2.now } };
 }
 
-fn spelled<T: Wire>(value: &T) -> Buffer
-    requires { length (spelling T.layout value.now) ≤ 4096 }
+fn spelled<T: Wire>(value: &T) -> ArrayVec<u8, FIELD_BYTES>
+    requires { length (spelling T.layout value.now) ≤ 512 }
     ensures { result.items ≡ spelling T.layout value.now }
 {
-    let mut bytes = Buffer::new();
+    let mut bytes = ArrayVec::new();
     value.put(&mut bytes);
     bytes
 }
@@ -51,7 +55,7 @@ fn spelled<T: Wire>(value: &T) -> Buffer
 impl Field {
     /// Tells it of this value.
     pub(crate) fn tell<T: Teller, V: Wire>(self, teller: &mut T, value: &V) -> Pushed
-        requires { length (spelling V.layout value.now) ≤ 4096 }
+        requires { length (spelling V.layout value.now) ≤ 512 }
         ensures { OnOk result (T.told teller.new ≡ T.told teller.old ++ flat_map T.marks
             (value_told self.indent self.named (spelling V.layout value.now))) }
     {
@@ -61,7 +65,7 @@ impl Field {
     /// Tells it of this value, with its parts.
     #[tactic(auto, using(crate::proofs::Pieces::pieces))]
     pub(crate) fn tell_structure<T: Teller, V: HasParts>(self, teller: &mut T, value: &V) -> Pushed
-        requires { length (spelling V.layout value.now) ≤ 4096 }
+        requires { length (spelling V.layout value.now) ≤ 512 }
         ensures { OnOk result (T.told teller.new ≡ T.told teller.old
             ++ flat_map T.marks (structure_told self.indent self.named
             (spelling V.layout value.now) (V.told_parts value.now))) }

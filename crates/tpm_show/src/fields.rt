@@ -11,18 +11,22 @@ ghost use Rattle.tpm_show.specs.FieldText.{value_told};
 use crate::field::Field;
 use crate::field_text::tell_value;
 use crate::teller::Teller;
+use arrayvec::ArrayVec;
 use tpm_commands::{CommandBody, Event, NvDefineSpace, NvRead, PolicyPcr, ReplyBody, StartParams};
 use tpm_output::text::Pushed;
 use tpm_types::EncryptedSalt;
-use tpm_wire::{Buffer, Wire, put_bytes};
+use tpm_wire::{Wire, put_bytes};
+
+// How many bytes an event has at most with its size.
+const EVENT_BYTES: usize = 1026;
 
 // How an event is spelled, which is lent.
 #[tactic(auto, unfolding(tpm_wire::specs::Structures::sized_bytes))]
-fn spelled_event(event: &Event<'_>) -> Buffer
+fn spelled_event(event: &Event<'_>) -> ArrayVec<u8, EVENT_BYTES>
     ensures { result.items ≡ spelling (sized_bytes event_bytes) event.now }
 {
     let event = event.as_slice();
-    let mut bytes = Buffer::new();
+    let mut bytes = ArrayVec::new();
     (event.len() as u16).put(&mut bytes);
     put_bytes(&mut bytes, event);
     bytes
@@ -51,7 +55,7 @@ pub(crate) fn tell_command_fields<T: Teller>(teller: &mut T, body: &CommandBody<
     match body {
         CommandBody::NvDefineSpace(params) => {
             let NvDefineSpace { auth, public } = params;
-            prove!(auth.len() + public.len() <= 4096);
+            prove!(auth.len() + public.len() <= 512);
             Field("  ", "auth", "TPM2B_AUTH").tell(teller, auth)?;
             Field("  ", "publicInfo", "TPM2B_NV_PUBLIC").tell_structure(teller, public)
         }
@@ -65,14 +69,14 @@ pub(crate) fn tell_command_fields<T: Teller>(teller: &mut T, body: &CommandBody<
             Field("  ", "offset", "UINT16").tell(teller, offset)
         }
         CommandBody::FlushContext(session) => {
-            prove!(session.len() <= 4096);
+            prove!(session.len() <= 512);
             Field("  ", "flushHandle", "TPMI_DH_CONTEXT").tell(teller, session)
         }
         CommandBody::PolicyCommandCode { code, .. } => {
             Field("  ", "code", "TPM_CC").tell(teller, code)
         }
         CommandBody::PolicyOr { digests, .. } => {
-            prove!(digests.len() <= 4096);
+            prove!(digests.len() <= 512);
             Field("  ", "pHashList", "TPML_DIGEST").tell_structure(teller, digests)
         }
         CommandBody::StartAuthSession(start) => {
@@ -82,7 +86,7 @@ pub(crate) fn tell_command_fields<T: Teller>(teller: &mut T, body: &CommandBody<
                 symmetric,
                 auth_hash,
             } = &start.params;
-            prove!(nonce_caller.len() + symmetric.len() + auth_hash.len() <= 4096);
+            prove!(nonce_caller.len() + symmetric.len() + auth_hash.len() <= 512);
             Field("  ", "nonceCaller", "TPM2B_NONCE").tell(teller, nonce_caller)?;
             Field("  ", "encryptedSalt", "TPM2B_ENCRYPTED_SECRET").tell(
                 teller,
@@ -93,7 +97,7 @@ pub(crate) fn tell_command_fields<T: Teller>(teller: &mut T, body: &CommandBody<
             Field("  ", "authHash", "TPMI_ALG_HASH").tell(teller, auth_hash)
         }
         CommandBody::PcrRead(selections) => {
-            prove!(selections.len() <= 4096);
+            prove!(selections.len() <= 512);
             Field("  ", "pcrSelectionIn", "TPML_PCR_SELECTION").tell_structure(teller, selections)
         }
         CommandBody::PolicyPcr { params, .. } => {
@@ -101,12 +105,12 @@ pub(crate) fn tell_command_fields<T: Teller>(teller: &mut T, body: &CommandBody<
                 pcr_digest,
                 selections,
             } = params;
-            prove!(pcr_digest.len() + selections.len() <= 4096);
+            prove!(pcr_digest.len() + selections.len() <= 512);
             Field("  ", "pcrDigest", "TPM2B_DIGEST").tell(teller, pcr_digest)?;
             Field("  ", "pcrs", "TPML_PCR_SELECTION").tell_structure(teller, selections)
         }
         CommandBody::PcrExtend { digests, .. } => {
-            prove!(digests.len() <= 4096);
+            prove!(digests.len() <= 512);
             Field("  ", "digests", "TPML_DIGEST_VALUES").tell_structure(teller, digests)
         }
         CommandBody::NvUndefineSpace { .. }
@@ -128,20 +132,20 @@ pub(crate) fn tell_reply_fields<T: Teller>(teller: &mut T, body: &ReplyBody) -> 
 {
     match body {
         ReplyBody::PcrEvent(digests) => {
-            prove!(digests.len() <= 4096);
+            prove!(digests.len() <= 512);
             Field("  ", "digests", "TPML_DIGEST_VALUES").tell_structure(teller, digests)
         }
         ReplyBody::NvRead(data) => {
-            prove!(data.len() <= 4096);
+            prove!(data.len() <= 512);
             Field("  ", "data", "TPM2B_MAX_NV_BUFFER").tell(teller, data)
         }
         ReplyBody::NvReadPublic { public, name } => {
-            prove!(public.len() + name.len() <= 4096);
+            prove!(public.len() + name.len() <= 512);
             Field("  ", "nvPublic", "TPM2B_NV_PUBLIC").tell_structure(teller, public)?;
             Field("  ", "nvName", "TPM2B_NAME").tell(teller, name)
         }
         ReplyBody::StartAuthSession(reply) => {
-            prove!(reply.nonce_tpm.len() <= 4096);
+            prove!(reply.nonce_tpm.len() <= 512);
             Field("  ", "nonceTPM", "TPM2B_NONCE").tell(teller, &reply.nonce_tpm)
         }
         ReplyBody::PcrRead {
@@ -149,7 +153,7 @@ pub(crate) fn tell_reply_fields<T: Teller>(teller: &mut T, body: &ReplyBody) -> 
             selections,
             digests,
         } => {
-            prove!(selections.len() + digests.len() <= 4096);
+            prove!(selections.len() + digests.len() <= 512);
             Field("  ", "pcrUpdateCounter", "UINT32").tell(teller, update_counter)?;
             Field("  ", "pcrSelectionOut", "TPML_PCR_SELECTION").tell_structure(
                 teller, selections,
@@ -157,7 +161,7 @@ pub(crate) fn tell_reply_fields<T: Teller>(teller: &mut T, body: &ReplyBody) -> 
             Field("  ", "pcrValues", "TPML_DIGEST").tell_structure(teller, digests)
         }
         ReplyBody::PolicyGetDigest(digest) => {
-            prove!(digest.len() <= 4096);
+            prove!(digest.len() <= 512);
             Field("  ", "policyDigest", "TPM2B_DIGEST").tell(teller, digest)
         }
         ReplyBody::NvUndefineSpace

@@ -102,7 +102,7 @@ impl HasParts for NvPublic {
 
     #[tactic(auto, using(crate::proofs::Pieces::pieces), unfolding(tpm_types::specs::Tpms::nv_public_area))]
     fn tell_parts<T: Teller>(&self, teller: &mut T) -> Pushed {
-        prove!(self.index.len() + self.alg.len() + self.attrs.len() + self.policy.len() <= 4096);
+        prove!(self.index.len() + self.alg.len() + self.attrs.len() + self.policy.len() <= 512);
         Field("    ", "nvIndex", "TPMI_RH_NV_INDEX").tell(teller, &self.index)?;
         Field("    ", "nameAlg", "TPMI_ALG_HASH").tell(teller, &self.alg)?;
         Field("    ", "attributes", "TPMA_NV").tell_structure(teller, &self.attrs)?;
@@ -176,7 +176,7 @@ impl HasParts for Selection {
 
     #[tactic(auto, unfolding(tpm_types::specs::Tpms::selection))]
     fn tell_parts<T: Teller>(&self, teller: &mut T) -> Pushed {
-        prove!(self.hash.len() <= 4096);
+        prove!(self.hash.len() <= 512);
         Field("      ", "hash", "TPMI_ALG_HASH").tell(teller, &self.hash)?;
         Field("      ", "sizeofSelect", "UINT8").tell(teller, &(SELECT_BYTES as u8))?;
         tell_select(teller, self)
@@ -187,7 +187,7 @@ impl Entry for Selection {
     ghost told_entry = { selection_entry };
 
     fn tell_entry<T: Teller>(&self, teller: &mut T) -> Pushed {
-        prove!(self.len() <= 4096);
+        prove!(self.len() <= 512);
         Field("    ", "pcrSelections", "TPMS_PCR_SELECTION").tell_structure(teller, self)
     }
 }
@@ -198,7 +198,7 @@ impl Entry for Digest {
     ghost told_entry = { digest_entry };
 
     fn tell_entry<T: Teller>(&self, teller: &mut T) -> Pushed {
-        prove!(self.len() <= 4096);
+        prove!(self.len() <= 512);
         Field("    ", "digests", "TPM2B_DIGEST").tell(teller, self)
     }
 }
@@ -212,7 +212,7 @@ impl HasParts for HashedDigest {
     #[tactic(auto, using(crate::proofs::Pieces::pieces), unfolding(tpm_types::specs::Tpmt::digest_value))]
     fn tell_parts<T: Teller>(&self, teller: &mut T) -> Pushed {
         let hash = self.hash();
-        prove!(hash.len() <= 4096);
+        prove!(hash.len() <= 512);
         Field("      ", "hashAlg", "TPMI_ALG_HASH").tell(teller, &hash)?;
         tell_value(teller, Field("      ", "digest", "TPMU_HA"), self.digest())
     }
@@ -222,7 +222,7 @@ impl Entry for HashedDigest {
     ghost told_entry = { digest_value_entry };
 
     fn tell_entry<T: Teller>(&self, teller: &mut T) -> Pushed {
-        prove!(self.len() <= 4096);
+        prove!(self.len() <= 512);
         Field("    ", "digests", "TPMT_HA").tell_structure(teller, self)
     }
 }
@@ -255,13 +255,13 @@ impl HasParts for SymDef {
         match self {
             SymDef::Null => tell_algorithm(teller, NULL),
             SymDef::Aes(bits) => {
-                prove!(bits.len() <= 4096);
+                prove!(bits.len() <= 512);
                 tell_algorithm(teller, AES)?;
                 Field("    ", "keyBits", "TPMU_SYM_KEY_BITS").tell(teller, bits)?;
                 Field("    ", "mode", "TPMU_SYM_MODE").tell(teller, &CFB)
             }
             SymDef::Xor(alg) => {
-                prove!(alg.len() <= 4096);
+                prove!(alg.len() <= 512);
                 tell_algorithm(teller, XOR)?;
                 Field("    ", "keyBits", "TPMU_SYM_KEY_BITS").tell(teller, alg)
             }
