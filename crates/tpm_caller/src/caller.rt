@@ -107,6 +107,7 @@ fn joined(front: &[u8], back: &[u8]) -> ArrayVec<u8, BLOCK_BYTES>
 }
 
 // Writes the bytes behind the first ones, and says how many there are then.
+#[inline(never)]
 fn append(out: &mut [u8], written: usize, bytes: &[u8]) -> usize
     requires { written + length bytes.now ≤ length out.old }
     ensures bytes { Appends bytes.now (out.old, written) (out.new, result) }
@@ -428,6 +429,8 @@ impl Caller {
     /// is written behind the handles. The sealed command stands at the beginning of `out`, which has room for at least
     /// 4,096 bytes, and is spelled by its bytes, since what `Plain::read` reads has spellings. What is answered opens
     /// its reply, and says how many bytes the command has.
+    // It is out of line, so that what it has on the stack is not there while a command is read.
+    #[inline(never)]
     pub fn seal_plain(
         self,
         plain: &Plain<'_>,

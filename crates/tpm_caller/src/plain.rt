@@ -4,7 +4,7 @@ ghost use Rattle.std.specs.Prelude.{◌≡◌, ◌≤◌, ◌+◌, ◌*◌, true
 ghost use Rattle.tpm_wire.specs.declared.refusal.Refusal.{Refusal as RefusalOf};
 ghost use Rattle.tpm_wire.specs.Reading.{read_all};
 ghost use Rattle.tpm_commands.specs.declared.command.CommandBody.{CommandBody as CommandBodyOf};
-ghost use Rattle.tpm_commands.specs.declared.command.Params.{Params};
+ghost use Rattle.tpm_commands.specs.declared.command.Params.{Params as ParamsOf};
 ghost use Rattle.tpm_commands.specs.Parameters.{parameters};
 ghost use Rattle.tpm_buffer.specs.Commands.{command as command_layout};
 ghost use Rattle.tpm_caller.specs.Plain.{body_in, parts_in, PartsFit};
@@ -12,7 +12,7 @@ ghost use Rattle.tpm_caller.specs.inner.Placing.{AreParams};
 
 use std::marker::Model;
 use tpm_buffer::areas;
-use tpm_commands::{CommandTable, decode_params};
+use tpm_commands::{CommandTable, Params, decode_params_into};
 use tpm_types::CommandCode;
 
 // How many bytes a command's header has.
@@ -49,12 +49,13 @@ impl<'a> Model for Plain<'a> {
 // be, which their value says. It is out of line, so that the value is off the stack again.
 #[inline(never)]
 fn are_params(code: CommandCode, bytes: &[u8]) -> bool
-    ensures yes { result ≡ true → (p : Params) × AreParams code bytes.now p }
+    ensures yes { result ≡ true → (p : ParamsOf) × AreParams code bytes.now p }
     ensures no { result ≡ false
         → (e : RefusalOf) × (read_all (parameters code) bytes.now ≡ Err e) }
 {
-    match decode_params(code, bytes) {
-        Ok(params) => params.len() <= PARAMS_BYTES,
+    let mut params = Params::PolicyRestart;
+    match decode_params_into(code, bytes, &mut params) {
+        Ok(()) => params.len() <= PARAMS_BYTES,
         Err(_) => false,
     }
 }
