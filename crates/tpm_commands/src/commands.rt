@@ -24,8 +24,9 @@ use tpm_wire::{Cursor, Refusal, Wire};
 
 // ---- a command's only parameter
 
-/// What is read, or its first fault.
-#[inline(always)]
+/// What is read, or its first fault. It is out of line, as is what reads several parameters: so no command has the room
+/// of another's on the stack, and code that moves a value stands once.
+#[inline(never)]
 pub(crate) fn take_only<T: Wire>(cursor: &mut Cursor<'_>) -> Result<T, Refusal>
     ensures reads { TakesNumbered (λ x. x) (numbered (number_of_parameter 1) T.layout)
         cursor.old cursor.new result }
@@ -37,7 +38,7 @@ pub(crate) fn take_only<T: Wire>(cursor: &mut Cursor<'_>) -> Result<T, Refusal>
 }
 
 /// The event that is read.
-#[inline(always)]
+#[inline(never)]
 pub(crate) fn take_event<'a>(cursor: &mut Cursor<'a>) -> Result<Event<'a>, Refusal>
     ensures reads { TakesNumbered (λ e. e) (numbered (number_of_parameter 1) (sized_bytes event_bytes))
         cursor.old cursor.new result }

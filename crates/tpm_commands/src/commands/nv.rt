@@ -26,6 +26,7 @@ pub struct NvDefineSpace {
 
 #[tactic(auto, unfolding(crate::specs::Commands::Nv::nv_define_space))]
 impl NvDefineSpace {
+    #[inline(never)]
     pub(crate) fn take(cursor: &mut Cursor<'_>) -> Result<Self, Refusal>
         ensures reads { TakesNumbered (λ p. params.NvDefineSpace p) nv_define_space
             cursor.old cursor.new result }

@@ -22,6 +22,7 @@ pub struct PolicyPcr {
 
 #[tactic(auto, unfolding(crate::specs::Commands::Policy::policy_pcr))]
 impl PolicyPcr {
+    #[inline(never)]
     pub(crate) fn take(cursor: &mut Cursor<'_>) -> Result<Self, Refusal>
         ensures reads { TakesNumbered (λ p. params.PolicyPcr p) policy_pcr
             cursor.old cursor.new result }

@@ -63,6 +63,7 @@ impl StartParams {
         self.auth_hash.read(cursor)
     }
 
+    #[inline(never)]
     pub(crate) fn take(cursor: &mut Cursor<'_>) -> Result<Self, Refusal>
         ensures reads { TakesNumbered (λ p. params.StartAuthSession p) start_auth_session
             cursor.old cursor.new result }
