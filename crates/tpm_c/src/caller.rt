@@ -58,8 +58,8 @@ pub unsafe extern "C" fn tpm_caller_init(place: *mut u8)
     std::ptr::write(place as *mut CallerState, nothing());
 }
 
-// The parameters of this command alone are read, and no command of any code is decoded. It is out of line, as is what
-// decodes the reply: so their room is free again before the key is made.
+// The parameters of this command alone are read, and no command of any code is decoded. It is out of line: so its room
+// is free again before the key is made.
 #[inline(never)]
 fn request_in(command: &[u8]) -> Option<StartAuth>
     ensures { result ≡ request_in (read_all command_layout command.now) }
@@ -80,7 +80,6 @@ fn request_in(command: &[u8]) -> Option<StartAuth>
     }
 }
 
-#[inline(never)]
 fn start_reply_in(reply: &[u8]) -> Option<StartReply>
     ensures { result ≡ start_reply_in reply.now }
 {
