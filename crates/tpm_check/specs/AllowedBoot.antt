@@ -1,13 +1,13 @@
 -- What is printed of a log beside a quote, and a list of allowed digests (this profile).
 use Rattle.std.specs.Prelude.{◌⊎◌, ℕ, Bool, true, false, nat_lt, List, [], length, map, Ok, Err}
-use Rattle.std.specs.Prelude.{IsPermutation, Option, Some, None}
+use Rattle.std.specs.Prelude.{Option, Some, None}
 use Rattle.tpm_types.specs.declared.tpms.Selection.{Selection}
+use Rattle.tpm_types.specs.Alg.{all_algs}
 use Rattle.tpm_pcr.specs.Registers.{Registers, value_in}
 use Rattle.tpm_log.specs.Changes.{AreAfter}
 use Rattle.tpm_log.specs.Events.{ParsedLog, Parses, shown}
 use Rattle.tpm_log.specs.Replays.{Replays}
 use Rattle.tpm_vouched.specs.declared.allowed.AllowedDigest.{AllowedDigest}
-use Rattle.tpm_vouched.specs.Order.{AreInOrder}
 use Rattle.tpm_options.specs.declared.CheckOptions.{CheckOptions}
 use Rattle.tpm_output.specs.declared.status.Status.TheVariants.{Done, Refused}
 use Rattle.tpm_output.specs.declared.status.Status.{Status}
@@ -28,18 +28,15 @@ pub record VouchedLog : Type 0 where
 
 abbrev pub on_digests : VouchedLog → List AllowedDigest → Verdict
 on_digests q list =
-    on_list q.json list (first_lacking list q.selections) (on_records q.json list q.log.size (map shown q.log.records))
+    on_list q.json list (first_lacking list q.selections all_algs)
+    (on_records q.json list q.log.size (map shown q.log.records))
 
 abbrev pub refused : List ℕ → Verdict
 refused text = record { status = Refused; text = text }
 
--- Of a list its digests in their order, or else the first line that is wrong.
+-- Of a list its digests, or else the first line that is wrong.
 abbrev pub SaysOfRead : VouchedLog → AllowRead → Verdict → Type 0
-SaysOfRead q (Ok digests) v =
-    (list : List AllowedDigest)
-    × IsPermutation digests list
-    × AreInOrder list
-    × Says (on_digests q list) v.status v.text
+SaysOfRead q (Ok digests) v = Says (on_digests q digests) v.status v.text
 SaysOfRead q (Err number) v = Says (refused (not_a_register_text q.json number)) v.status v.text
 
 -- The one holds of a list that is too long, and else the other.

@@ -1,22 +1,35 @@
 //! The subcommand `check` of a list of allowed digests, beside a quote as it was signed.
 
-ghost use Rattle.std.specs.Prelude.{◌≡◌, ℕ, List, Ok, Some, IfOk, option_map, string_bytes};
+ghost use Rattle.std.specs.Prelude.{◌≡◌, ℕ, List, Some, false, map, IfOk, IsErrOf, option_map, string_bytes};
 ghost use Rattle.std.specs.Io.KnownBytes.{Appends};
+ghost use Rattle.tpm_wire.specs.Sources.{IsWhereItFailed};
+ghost use Rattle.tpm_types.specs.Alg.{all_algs};
+ghost use Rattle.tpm_log.specs.Events.{ParsedLog, shown};
+ghost use Rattle.tpm_events.specs.ListEvents.{most_read};
+ghost use Rattle.tpm_output.specs.declared.fault.ToolFault.TheVariants.{InputTooLong, Read};
 ghost use Rattle.tpm_output.specs.declared.status.Status.TheVariants.{Refused};
 ghost use Rattle.tpm_output.specs.Faults.{FailsByMemoryOrWrite};
-ghost use Rattle.tpm_check.specs.AllowTold.{too_long_text};
-ghost use Rattle.tpm_check.specs.AllowedBoot.{ChecksBeside, SaysBehind, SaysBeside, SaysOfList};
-ghost use Rattle.tpm_check.specs.AllowedBoot.{SaysOfRead, SaysOfSelected, on_boot};
+ghost use Rattle.tpm_output.specs.InputLines.{CountsRead};
+ghost use Rattle.tpm_output.specs.Reads.{ReadsNoMore, ReadsUpTo};
+ghost use Rattle.tpm_check.specs.AllowTold.{first_lacking, on_list, on_unknown, too_long_text};
+ghost use Rattle.tpm_check.specs.AllowedBoot.{ChecksBeside, SaysBehind, SaysBeside};
+ghost use Rattle.tpm_check.specs.AllowedBoot.{SaysOfSelected, on_boot};
+ghost use Rattle.tpm_check.specs.CheckAttest.{Says};
+ghost use Rattle.tpm_check.specs.Extensions.{extensions_in};
+ghost use Rattle.tpm_check.specs.inner.AllowedLists.{IsReadOf, digests_of, said_of};
 ghost use Rattle.tpm_check.specs.inner.CheckAttest.{Adds};
 ghost use Rattle.tpm_check.specs.Compare.{Verdict, not_a_register_text, printed};
 
+use crate::allow_index::AllowIndex;
 use crate::allow_lines::read_allowed;
 use crate::allow_told::push_beside_list;
 use crate::beside::Beside;
 use crate::check_json::ok_text;
 use crate::checked::tell_fault;
 use crate::compared::{MOST_BYTES, no_register_text};
+use crate::extensions::{Extension, extensions_in};
 use crate::judged::answer_to_attest;
+use crate::looked_up::look_up;
 use crate::quoted_boot::{quoted_banks, selected};
 use crate::register_text::push_not_a_register;
 use crate::replayed::{ReplayedLog, replayed};
@@ -28,28 +41,28 @@ use tpm_options::CheckOptions;
 use tpm_output::answer::Answer;
 use tpm_output::fault::ToolFault;
 use tpm_output::status::Status;
+use tpm_pcr::Registers;
 use tpm_types::Selections;
-use tpm_vouched::{AllowList, AllowedDigest};
+use tpm_vouched::AllowedDigest;
+use tpm_wire::Source;
 
-// What is printed of a log beside these digests.
+// What is printed of a log beside these digests, of which those that aren't among them were found.
 fn answer_to_digests(
     alloc: Global,
     json: bool,
-    digests: Vec<AllowedDigest>,
+    list: &AllowIndex<'_>,
     quoted: &Selections,
-    log: &Log<'_>,
+    found: &[Extension<'_>],
 ) -> Result<Answer, AllocError>
-    ensures { IfOk result (λ a. SaysOfRead
-        (record { json = json; selections = quoted.now; log = log.now }) (Ok digests.items)
-        (printed a.status (string_bytes a.text))) }
+    ensures { IfOk result (λ a. Says
+        (on_list json list.now (first_lacking list.now quoted.now all_algs)
+        (on_unknown json list.now found.now)) a.status (string_bytes a.text)) }
 {
-    let mut digests = digests;
-    let list = AllowList::new(digests.as_mut_slice());
     if let [] = list.digests() {
         return Answer::of(alloc, Status::Refused, no_register_text(json, false));
     }
     let mut text = String::new(alloc);
-    let status = push_beside_list(alloc, &mut text, json, &list, quoted, log)?;
+    let status = push_beside_list(&mut text, json, list, quoted, found)?;
     Ok(Answer { status, text })
 }
 
@@ -73,24 +86,57 @@ fn too_long_text(json: bool) -> &'static str
     }
 }
 
-// What is printed of a log beside the bytes of a list.
+/// A list that was read.
+#[derive(Drop)]
+enum ReadList {
+    TooLong,
+    /// The line of this number is the first that is wrong.
+    Wrong(u64),
+    Digests(Vec<AllowedDigest>),
+}
+
+impl ReadList {
+    // AllocError where a request for memory is refused.
+    fn of(alloc: Global, bytes: &[u8]) -> Result<Self, AllocError>
+        ensures { IfOk result (λ read. IsReadOf bytes.now read) }
+    {
+        if bytes.len() > MOST_BYTES {
+            return Ok(ReadList::TooLong);
+        }
+        match read_allowed(alloc, bytes)? {
+            Ok(digests) => Ok(ReadList::Digests(digests)),
+            Err(number) => Ok(ReadList::Wrong(number)),
+        }
+    }
+
+    // Its digests, where it has no fault.
+    fn digests(&self) -> &[AllowedDigest]
+        ensures { result.now ≡ digests_of self.now }
+    {
+        match self {
+            ReadList::Digests(digests) => digests.as_slice(),
+            ReadList::TooLong | ReadList::Wrong(_) => &[],
+        }
+    }
+}
+
+// What is printed of a log beside a list.
 fn answer_to_list(
     alloc: Global,
     json: bool,
-    bytes: &[u8],
+    list: &ReadList,
+    index: &AllowIndex<'_>,
     quoted: &Selections,
-    log: &Log<'_>,
+    found: &[Extension<'_>],
 ) -> Result<Answer, AllocError>
-    ensures { IfOk result (λ a. SaysOfList
-        (record { json = json; selections = quoted.now; log = log.now }) bytes.now
-        (printed a.status (string_bytes a.text))) }
+    requires { index.now ≡ digests_of list.now }
+    ensures { IfOk result (λ a. Says (said_of json quoted.now list.now found.now)
+        a.status (string_bytes a.text)) }
 {
-    if bytes.len() > MOST_BYTES {
-        return Answer::of(alloc, Status::Refused, too_long_text(json));
-    }
-    match read_allowed(alloc, bytes)? {
-        Ok(digests) => answer_to_digests(alloc, json, digests, quoted, log),
-        Err(number) => wrong_line(alloc, json, number),
+    match list {
+        ReadList::TooLong => Answer::of(alloc, Status::Refused, too_long_text(json)),
+        ReadList::Wrong(number) => wrong_line(alloc, json, *number),
+        ReadList::Digests(_) => answer_to_digests(alloc, json, index, quoted, found),
     }
 }
 
@@ -127,7 +173,10 @@ fn push_listed(
         × Adds second status (string_bytes text.old) (string_bytes text.new)) }
 {
     let boot = push_boot(alloc, text, options, options.secure_boot, quoted, log)?;
-    let last = answer_to_list(alloc, options.json, allow, quoted, log)?;
+    let list = ReadList::of(alloc, allow)?;
+    let index = AllowIndex::new(alloc, list.digests())?;
+    let found = extensions_in(alloc, Some(&index), log)?;
+    let last = answer_to_list(alloc, options.json, &list, &index, quoted, found.as_slice())?;
     text.push_str(last.text.as_str())?;
     Ok(boot.both(last.status))
 }
@@ -200,6 +249,79 @@ pub(crate) fn print_beside<W: Write>(
 {
     match replayed(bytes) {
         Ok(found) => answer_beside(alloc, options, attest, allow, &found)?.print(out),
+        Err(fault) => tell_fault(alloc, options.json, &fault, out),
+    }
+}
+
+// What is printed of a log beside a quote and a list, by the registers that it gives and those of its digests that
+// aren't on the list.
+fn answer_to_unknown(
+    alloc: Global,
+    options: &CheckOptions<'_>,
+    attest: &[u8],
+    list: &ReadList,
+    index: &AllowIndex<'_>,
+    registers: &Registers,
+    found: &[Extension<'_>],
+) -> Result<Answer, AllocError>
+    requires index { index.now ≡ digests_of list.now }
+    requires boot { options.now.secure_boot ≡ false }
+    ensures { IfOk result (λ a. (allow : List ℕ) (l : ParsedLog)
+        → IsReadOf allow list.now
+        → found.now ≡ extensions_in (Some index.now) l.size (map shown l.records)
+        → SaysBeside options.now (record { attest = attest.now; allow = Some allow })
+        registers.now l (printed a.status (string_bytes a.text))) }
+{
+    let json = options.json;
+    let first = answer_to_attest(alloc, &Beside { registers, json }, options, attest)?;
+    let mut text = first.text;
+    let mut status = first.status;
+    if status == Status::Done {
+        let last = answer_to_list(alloc, json, list, index, &selected(attest), found)?;
+        text.push_str(last.text.as_str())?;
+        status = last.status;
+    }
+    text.push_str(ok_text(json, status))?;
+    Ok(Answer { status, text })
+}
+
+/// Prints what is said of a log beside a quote and a list of allowed digests, or its fault. The log isn't held.
+pub(crate) fn print_looked_up<L: Source, W: Write>(
+    alloc: Global,
+    log: &mut L,
+    options: &CheckOptions<'_>,
+    attest: &[u8],
+    allow: &[u8],
+    out: &mut W,
+) -> Result<Status, ToolFault>
+    requires { options.now.secure_boot ≡ false }
+    ensures failures { CountsRead (L.failed log.old) (L.failed log.new) result }
+    ensures stop { IsErrOf result Read → IsWhereItFailed (L.stopped log.new) }
+    ensures most { ReadsNoMore most_read (L.coming log.old) (L.coming log.new) }
+    ensures ok { IfOk result (λ status. (bytes : List ℕ) × (text : List ℕ)
+        × ReadsUpTo most_read (L.coming log.old) (L.coming log.new) bytes
+        × ChecksBeside options.now
+        (record { attest = attest.now; allow = Some allow.now }) bytes status text
+        × Appends (W.contents out.old) (W.contents out.new) text) }
+    ensures short { IsErrOf result InputTooLong → ⊥ }
+{
+    let list = ReadList::of(alloc, allow)?;
+    let index = AllowIndex::new(alloc, list.digests())?;
+    let looked_up = look_up(alloc, log, &index)?;
+    match looked_up.registers() {
+        Ok(registers) => {
+            let found = looked_up.unknown(alloc)?;
+            answer_to_unknown(
+                alloc,
+                options,
+                attest,
+                &list,
+                &index,
+                registers,
+                found.as_slice(),
+            )?
+            .print(out)
+        }
         Err(fault) => tell_fault(alloc, options.json, &fault, out),
     }
 }

@@ -6,6 +6,7 @@ ghost use Rattle.tpm_check.specs.Compare.{is_space, first_word, behind_word, ban
 ghost use Rattle.tpm_check.specs.Compare.{stated_in};
 ghost use Rattle.tpm_check.specs.inner.Comparing.{stated_as};
 
+use memchr::memchr;
 use std::alloc::{AllocError, Global};
 use tpm_output::hexadecimal::decoded;
 use tpm_types::{Alg, PcrIndex};
@@ -23,10 +24,11 @@ pub(crate) struct Stated {
     pub(crate) value: Vec<u8>,
 }
 
+#[tactic(auto, using(crate::proofs::AllowReading::first_byte))]
 fn first_space(text: &[u8]) -> Option<usize>
     ensures { result ≡ position is_space text.now }
 {
-    text.iter().position(|byte| *byte == b' ')
+    memchr(b' ', text)
 }
 
 /// What stands before the first space, or all where there is none; and what stands behind it.
@@ -50,12 +52,24 @@ pub(crate) fn bank_named(word: &[u8]) -> Option<Alg>
         .find(|bank| bank.name().as_bytes() == word)
 }
 
-// The place of a word in the table of numbers.
+// The place of a word in the table of numbers, in which one of a digit needn't be looked for.
 fn number_named(word: &[u8]) -> Option<usize>
     ensures place { result ≡ register_named word.now }
     ensures below { IfSome result (λ number. number < 24) }
 {
-    REGISTERS.iter().position(|name| name.as_bytes() == word)
+    match word {
+        [b'0'] => Some(0),
+        [b'1'] => Some(1),
+        [b'2'] => Some(2),
+        [b'3'] => Some(3),
+        [b'4'] => Some(4),
+        [b'5'] => Some(5),
+        [b'6'] => Some(6),
+        [b'7'] => Some(7),
+        [b'8'] => Some(8),
+        [b'9'] => Some(9),
+        _ => REGISTERS.iter().position(|name| name.as_bytes() == word),
+    }
 }
 
 /// The register of this number in decimal.
