@@ -18,9 +18,6 @@ use tpm_types::CommandCode;
 // How many bytes a command's header has.
 const HEADER: usize = 10;
 
-// How many bytes a command's parameters have at most.
-const PARAMS_BYTES: usize = 3500;
-
 /// A command in bytes, whose first handle needs authorization. Its handles and its parameters lie in the bytes, and
 /// its sessions are left out.
 #[derive(Drop)]
@@ -45,8 +42,8 @@ impl<'a> Model for Plain<'a> {
         × (length p.params.now ≤ most_params) };
 }
 
-// The bytes are the parameters of a command with this code, all of them. They are so few as a command's parameters can
-// be, which their value says. It is out of line, so that the value is off the stack again.
+// The bytes are the parameters of a command with this code, all of them. It is out of line, so that their value is off
+// the stack again.
 #[inline(never)]
 fn are_params(code: CommandCode, bytes: &[u8]) -> bool
     ensures yes { result ≡ true → (p : ParamsOf) × AreParams code bytes.now p }
@@ -54,10 +51,7 @@ fn are_params(code: CommandCode, bytes: &[u8]) -> bool
         → (e : RefusalOf) × (read_all (parameters code) bytes.now ≡ Err e) }
 {
     let mut params = Params::PolicyRestart;
-    match decode_params_into(code, bytes, &mut params) {
-        Ok(()) => params.len() <= PARAMS_BYTES,
-        Err(_) => false,
-    }
+    decode_params_into(code, bytes, &mut params).is_ok()
 }
 
 // So many handles, behind the header.

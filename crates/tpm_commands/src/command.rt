@@ -445,53 +445,34 @@ impl<'a> CommandBody<'a> {
 // ---- parameters alone
 
 impl Params<'_> {
-    /// How many bytes they have, 0 to 3,500.
+    // They have a spelling, whatever is left.
     #[tactic(auto, unfolding(crate::specs::Commands::Pcr::pcr_event, crate::specs::Commands::Startup::startup, crate::specs::Commands::Context::flush_context, crate::specs::Commands::Policy::policy_command_code, crate::specs::Commands::Policy::policy_or, crate::specs::Commands::Pcr::pcr_read, crate::specs::Commands::Pcr::pcr_extend,))]
-    pub fn len(&self) -> usize
-        ensures value { result ≡ length (spelling (parameters (params_code self.now)) self.now) }
-        ensures fits { result ≤ most_params }
-        ensures spelled { (left : ℕ) → Fits left (parameters (params_code self.now)) self.now }
+    #[inline(always)]
+    pub(crate) fn have_spelling(&self)
+        ensures { (left : ℕ) → Fits left (parameters (params_code self.now)) self.now }
     {
         match self {
-            Params::NvDefineSpace(params) => params.len(),
-            Params::PcrEvent(event) => {
-                event.has_spelling();
-                event.len()
-            }
-            Params::Startup(startup_type) => {
-                startup_type.has_spelling();
-                startup_type.len()
-            }
-            Params::NvRead(params) => params.len(),
-            Params::FlushContext(session) => {
-                session.has_spelling();
-                session.len()
-            }
+            Params::NvDefineSpace(params) => params.has_spelling(),
+            Params::PcrEvent(event) => event.has_spelling(),
+            Params::Startup(startup_type) => startup_type.has_spelling(),
+            Params::NvRead(params) => params.has_spelling(),
+            Params::FlushContext(session) => session.has_spelling(),
             Params::PolicyCommandCode(code) => {
                 prove!(*code <= u32::MAX);
-                code.len()
+                code.has_spelling();
             }
-            Params::PolicyOr(digests) => {
-                digests.has_spelling();
-                digests.len()
-            }
-            Params::StartAuthSession(params) => params.len(),
-            Params::PcrRead(selections) => {
-                selections.has_spelling();
-                selections.len()
-            }
-            Params::PolicyPcr(params) => params.len(),
-            Params::PcrExtend(digests) => {
-                digests.has_spelling();
-                digests.len()
-            }
+            Params::PolicyOr(digests) => digests.has_spelling(),
+            Params::StartAuthSession(params) => params.has_spelling(),
+            Params::PcrRead(selections) => selections.has_spelling(),
+            Params::PolicyPcr(params) => params.has_spelling(),
+            Params::PcrExtend(digests) => digests.has_spelling(),
             Params::NvUndefineSpace
             | Params::NvIncrement
             | Params::PcrReset
             | Params::NvReadPublic
             | Params::PolicyAuthValue
             | Params::PolicyRestart
-            | Params::PolicyGetDigest => 0,
+            | Params::PolicyGetDigest => {}
         }
     }
 }

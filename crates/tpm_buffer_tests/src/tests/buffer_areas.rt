@@ -107,10 +107,14 @@ fn parameters_alone(rt: HostRuntime) {
         Params::NvRead(asked) => assert!(&rt; asked.size == 8 && asked.offset == 0x0102),
         _ => panic!(&rt; "no parameters of NV_Read"),
     }
-    // As many bytes as they were read from: a digest of two, and a selection of one bank.
+    // A digest of two bytes, and a selection of one bank.
     let policy = bytes(&rt, "0002 c1c2 00000001 000b 03 800000");
-    let params = decode_params(CommandCode::PolicyPcr, policy.as_slice());
-    assert!(&rt; params.ok().expect(&rt, "parameters of a PolicyPCR").len() == policy.len());
+    match decode_params(CommandCode::PolicyPcr, policy.as_slice()) {
+        Ok(Params::PolicyPcr(asked)) => {
+            assert!(&rt; asked.pcr_digest.as_slice() == [0xC1, 0xC2].as_slice());
+        }
+        _ => panic!(&rt; "no parameters of PolicyPCR"),
+    }
     // Places are counted from the first byte of the parameters.
     let fault = decode_params(CommandCode::NvRead, &[0, 8]).err();
     assert!(&rt; fault == Some(Refusal { code: 0x2DA, at: 2 }));

@@ -42,13 +42,20 @@ impl NvDefineSpace {
     }
 
     #[inline(always)]
+    pub(crate) fn has_spelling(&self)
+        ensures { (left : ℕ) → Fits left nv_define_space (params.NvDefineSpace self.now) }
+    {
+        self.auth.has_spelling();
+        self.public.has_spelling();
+    }
+
+    #[inline(always)]
     pub(crate) fn len(&self) -> usize
         ensures value { result ≡ length (spelling nv_define_space (params.NvDefineSpace self.now)) }
         ensures fits { result ≤ most_params }
         ensures spelled { (left : ℕ) → Fits left nv_define_space (params.NvDefineSpace self.now) }
     {
-        self.auth.has_spelling();
-        self.public.has_spelling();
+        self.has_spelling();
         self.auth.len() + self.public.len()
     }
 
@@ -141,13 +148,21 @@ impl NvRead {
     }
 
     #[inline(always)]
+    pub(crate) fn has_spelling(&self)
+        ensures { (left : ℕ) → Fits left nv_read (params.NvRead self.now) }
+    {
+        prove!(self.size <= u16::MAX && self.offset <= u16::MAX);
+        self.size.has_spelling();
+        self.offset.has_spelling();
+    }
+
+    #[inline(always)]
     pub(crate) fn len(&self) -> usize
         ensures value { result ≡ length (spelling nv_read (params.NvRead self.now)) }
         ensures fits { result ≤ most_params }
         ensures spelled { (left : ℕ) → Fits left nv_read (params.NvRead self.now) }
     {
-        self.size.has_spelling();
-        self.offset.has_spelling();
+        self.has_spelling();
         self.size.len() + self.offset.len()
     }
 

@@ -41,13 +41,20 @@ impl PolicyPcr {
     }
 
     #[inline(always)]
+    pub(crate) fn has_spelling(&self)
+        ensures { (left : ℕ) → Fits left policy_pcr (params.PolicyPcr self.now) }
+    {
+        self.pcr_digest.has_spelling();
+        self.selections.has_spelling();
+    }
+
+    #[inline(always)]
     pub(crate) fn len(&self) -> usize
         ensures value { result ≡ length (spelling policy_pcr (params.PolicyPcr self.now)) }
         ensures fits { result ≤ most_params }
         ensures spelled { (left : ℕ) → Fits left policy_pcr (params.PolicyPcr self.now) }
     {
-        self.pcr_digest.has_spelling();
-        self.selections.has_spelling();
+        self.has_spelling();
         self.pcr_digest.len() + self.selections.len()
     }
 

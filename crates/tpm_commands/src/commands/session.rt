@@ -77,11 +77,8 @@ impl StartParams {
     }
 
     #[inline(always)]
-    pub(crate) fn len(&self) -> usize
-        ensures value { result
-            ≡ length (spelling start_auth_session (params.StartAuthSession self.now)) }
-        ensures fits { result ≤ most_params }
-        ensures spelled { (left : ℕ)
+    pub(crate) fn has_spelling(&self)
+        ensures { (left : ℕ)
             → Fits left start_auth_session (params.StartAuthSession self.now) }
     {
         self.nonce_caller.has_spelling();
@@ -89,6 +86,17 @@ impl StartParams {
         self.session_type.has_spelling();
         self.symmetric.has_spelling();
         self.auth_hash.has_spelling();
+    }
+
+    #[inline(always)]
+    pub(crate) fn len(&self) -> usize
+        ensures value { result
+            ≡ length (spelling start_auth_session (params.StartAuthSession self.now)) }
+        ensures fits { result ≤ most_params }
+        ensures spelled { (left : ℕ)
+            → Fits left start_auth_session (params.StartAuthSession self.now) }
+    {
+        self.has_spelling();
         self.nonce_caller.len()
             + EncryptedSalt::Empty.len()
             + self.session_type.len()

@@ -1,5 +1,5 @@
 use Rattle.std.proofs.lemmas.Result.{err_from_is_err_and}
-use Rattle.tpm_commands.proofs.WholeParams.{all_read, all_spelled, refused, judged}
+use Rattle.tpm_commands.proofs.WholeParams.{all_few, all_read, all_spelled, refused, judged}
 use Rattle.tpm_commands.proofs.command_parameters.decode_params_into.Goals as goal
 
 pub returns-clause-reads : goal.returns-clause-reads
@@ -11,6 +11,11 @@ pub returns-clause-spelled : goal.returns-clause-spelled
 returns-clause-spelled c =
     all_spelled c.args.bytes.now _ c.of_whole-cursor.result c.read.new.cursor.here c.end_of_whole.result
     c.of_whole-cursor.ensures c.in_ok-read.ensures.spelled c.end_of_whole.ensures
+
+pub returns-clause-few : goal.returns-clause-few
+returns-clause-few c =
+    all_few c.args.code c.args.bytes.now c.of_whole-cursor.result c.read.new.self c.read.new.cursor.here
+    c.end_of_whole.result c.of_whole-cursor.ensures c.in_ok-read.ensures.reads c.end_of_whole.ensures
 
 pub returns-clause-decodes : goal.returns-clause-decodes
 returns-clause-decodes c = judged c.args.code c.args.bytes.now _ (returns-clause-reads c)
