@@ -10,16 +10,10 @@ cp tpmtool "$wrapper/tpmtool"
 printf 'low:\ntpmtool: low\n' >"$wrapper/crates.txt"
 cat >"$wrapper/bin/rt" <<'END'
 #!/bin/sh
-# check: a proof; run: a build, and the program with a word; lib: a library, or an archive; try: the program, and then
-# what `rt try` says of it.
+# run: a build, and the program with a word; lib: a library's proof, or an archive; try: the program, and then what
+# `rt try` says of it.
 echo "$PWD $*" >>"$CALLS"
 case $1 in
-check)
-    echo "what a proof of ${PWD##*/} says"
-    [ -z "$UNPROVED" ] || exit 1
-    sleep 1
-    echo logic=proved functions=1
-    ;;
 run)
     echo "what a build says"
     echo "what a build complains of" >&2
@@ -37,7 +31,13 @@ PROGRAM
     [ -z "$BROKEN" ]
     ;;
 lib)
-    [ "${PWD##*/}" != low ] || { mkdir -p out/rlib && exit; }
+    if [ "${PWD##*/}" = low ]; then
+        echo "what a proof of low says"
+        [ -z "$UNPROVED" ] || exit 1
+        sleep 1
+        mkdir -p out/rlib
+        exit
+    fi
     echo "what an archive's build says"
     [ -z "$SLOW" ] || { echo $$ >"$SLOW" && exec sleep 60; }
     [ -z "$EDITED" ] || { sleep 0.1 && touch "$EDITED"; }
