@@ -5,7 +5,7 @@ use crate::link::Link;
 use crate::numbers::Order;
 
 /// An interface on which packets were captured.
-#[derive(Clone, Copy, Debug, Default, PartialEq, Eq)]
+#[derive(Clone, Copy, Default)]
 pub(crate) struct Interface {
     /// Its kind of link, where that is known.
     pub(crate) link: Option<Link>,
@@ -16,7 +16,7 @@ pub(crate) struct Interface {
 }
 
 /// A time, in the units of an interface, since 1970 began (UTC).
-#[derive(Clone, Copy, Debug, PartialEq, Eq)]
+#[derive(Clone, Copy)]
 pub(crate) enum Ticks {
     /// None.
     Untold,

@@ -1,7 +1,7 @@
 //! What went over a simulator's port.
 
 /// Why a packet is not told.
-#[derive(Clone, Copy, Debug, PartialEq, Eq)]
+#[derive(Clone, Copy)]
 pub enum Reason {
     /// Not all of it was captured.
     CutShort,
@@ -22,7 +22,7 @@ pub enum Reason {
 }
 
 /// A packet of a file.
-#[derive(Clone, Copy, Debug, PartialEq, Eq)]
+#[derive(Clone, Copy)]
 pub struct Stamp {
     /// Its number, from 1.
     pub packet: u64,

@@ -6,7 +6,7 @@ ghost use Rattle.tpm_pcap.specs.Links.{link_of, head_size, is_internet, carries_
 use crate::numbers::number2;
 
 /// A kind of link, by what stands before each packet of it (libpcap, "Link-layer header types").
-#[derive(Clone, Copy, Debug, PartialEq, Eq)]
+#[derive(Clone, Copy)]
 pub(crate) enum Link {
     /// Nothing.
     Raw,

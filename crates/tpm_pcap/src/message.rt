@@ -9,7 +9,7 @@ use crate::numbers::{number2, number4};
 const MOST: usize = 4096;
 
 /// What bytes are, from the beginning of a message.
-#[derive(Clone, Copy, Debug, PartialEq, Eq)]
+#[derive(Clone, Copy)]
 pub(crate) enum Measure {
     /// Less than a message.
     More,

@@ -11,7 +11,7 @@ use crate::link::{Link, carries_internet, head_size};
 use crate::numbers::{byte_at, number2, number4};
 
 /// What is looked for in a packet.
-#[derive(Clone, Copy, Debug, PartialEq, Eq)]
+#[derive(Clone, Copy)]
 pub(crate) struct Sought {
     /// The port of the simulator.
     pub(crate) port: u16,

@@ -14,7 +14,7 @@ use crate::segment::{Segment, behind, front};
 use std::alloc::{AllocError, Global};
 
 /// Where a segment stands.
-#[derive(Clone, Copy, Debug, PartialEq, Eq)]
+#[derive(Clone, Copy)]
 pub(crate) enum Placing {
     /// Where the next byte is to come.
     InOrder,

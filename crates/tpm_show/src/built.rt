@@ -34,7 +34,7 @@ fn part_bytes(alloc: Global, text: &str) -> Result<Option<Vec<u8>>, AllocError>
 // ---- which part a place is in
 
 /// A part of a command.
-#[derive(Clone, Copy, Debug, PartialEq, Eq)]
+#[derive(Clone, Copy)]
 pub(crate) enum Part {
     /// Its tag, its size and its code.
     Header,

@@ -26,7 +26,7 @@ use tpm_output::status::Status;
 use tpm_types::CommandCode;
 
 /// Which reply may come next.
-#[derive(Clone, Copy, Debug, PartialEq, Eq)]
+#[derive(Clone, Copy)]
 pub(crate) enum Awaited {
     /// None: no command is before it.
     Nothing,

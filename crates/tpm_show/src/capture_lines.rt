@@ -14,7 +14,7 @@ use tpm_output::hexadecimal::decoded;
 pub(crate) const MOST_LINE: usize = 8195;
 
 /// Which way a frame went.
-#[derive(Clone, Copy, Debug, PartialEq, Eq)]
+#[derive(Clone, Copy, PartialEq, Eq)]
 pub(crate) enum Direction {
     /// To the TPM.
     Command,

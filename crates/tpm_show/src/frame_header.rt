@@ -21,7 +21,7 @@ use tpm_output::text::Pushed;
 use tpm_wire::{Cursor, Refusal, Wire};
 
 /// The first ten bytes of a frame (Part 1, "Command/Response Structure").
-#[derive(Clone, Copy, Debug, PartialEq, Eq)]
+#[derive(Clone, Copy)]
 pub(crate) struct FrameHeader {
     pub(crate) tag: u16,
     /// How many bytes the frame says it has.

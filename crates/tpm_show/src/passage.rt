@@ -10,7 +10,7 @@ use tpm_output::text::Pushed;
 use tpm_pcap::Stamp;
 
 /// Where a frame stands among the packets of a network.
-#[derive(Clone, Copy, Debug, PartialEq, Eq)]
+#[derive(Clone, Copy)]
 pub(crate) struct Passage {
     /// How many connections there were so far.
     pub(crate) connection: u64,
