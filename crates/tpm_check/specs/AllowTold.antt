@@ -1,25 +1,26 @@
 -- What is printed of a log beside a list of allowed digests (this profile).
-use Rattle.std.specs.Prelude.{ℕ, zero, suc, Bool, true, false, not, List, [], ◌∷◌, ◌++◌, codes, find, flat_map, map}
-use Rattle.std.specs.Prelude.{Option, Some, None, if◌then◌else◌}
+use Rattle.std.specs.Prelude.{ℕ, zero, suc, Bool, true, false, not, List, [], ◌∷◌, ◌++◌, codes, find, flat_map, ◌&&◌}
+use Rattle.std.specs.Prelude.{Option, Some, None, option_map, if◌then◌else◌}
 use Rattle.std.specs.Fmt.{decimal}
 use Rattle.std.specs.Int.{to_be_bytes, w32}
 use Rattle.std.specs.List.{list_any}
+use Rattle.std.specs.Option.{option_or}
 use Rattle.hex.specs.Hex.{encode_lower}
 use Rattle.tpm_types.specs.declared.alg.Alg.{Alg}
 use Rattle.tpm_types.specs.declared.tpms.Selection.{Selection}
 use Rattle.tpm_types.specs.Alg.{alg_name, all_algs}
 use Rattle.tpm_quote.specs.declared.attest.NotSelected.{NotSelected}
-use Rattle.tpm_quote.specs.Attests.{is_among}
+use Rattle.tpm_pcr.specs.Registers.{all_registers}
+use Rattle.tpm_quote.specs.Attests.{is_among, register_of}
 use Rattle.tpm_event_data.specs.EventTypes.{event_type_name}
-use Rattle.tpm_event_data.specs.Events.{Shown}
 use Rattle.tpm_vouched.specs.declared.allowed.AllowedDigest.{AllowedDigest}
-use Rattle.tpm_vouched.specs.Allowed.{names, register_named}
+use Rattle.tpm_vouched.specs.Allowed.{names}
 use Rattle.tpm_output.specs.declared.status.Status.TheVariants.{Done, Refused}
 use Rattle.tpm_output.specs.declared.status.Status.{Status}
 use Rattle.tpm_output.specs.Text.{line}
 use Rattle.tpm_check.specs.CheckAttest.{lacks_line}
 use Rattle.tpm_check.specs.Compare.{Verdict, no_register_text}
-use Rattle.tpm_check.specs.Extensions.{Extension, extensions_in, is_of}
+use Rattle.tpm_check.specs.Extensions.{Extension, is_of}
 
 -- ---- a digest
 
@@ -91,9 +92,9 @@ abbrev pub status_of_unknown : List Extension → Status
 status_of_unknown [] = Done
 status_of_unknown (x ∷ xs) = Refused
 
-abbrev pub on_records : (json : Bool) → List AllowedDigest → (size : ℕ) → List Shown → Verdict
-on_records json list size records = let found = extensions_in (Some list) size records in
-    record { status = status_of_unknown found; text = banks_told json list found }
+-- by those that aren't on it
+abbrev pub on_unknown : (json : Bool) → List AllowedDigest → List Extension → Verdict
+on_unknown json list found = record { status = status_of_unknown found; text = banks_told json list found }
 
 -- a register that the list names and that isn't selected
 unfoldable pub lacking_object : (bank : List ℕ) → (register : ℕ) → List ℕ
@@ -110,8 +111,18 @@ abbrev pub on_lacking : (json : Bool) → Option NotSelected → Verdict → Ver
 on_lacking json (Some r) v = record { status = Refused; text = lacking_text json r }
 on_lacking json None v = v
 
-abbrev pub first_lacking : List AllowedDigest → List Selection → Option NotSelected
-first_lacking list quoted = find (λ r. not (is_among quoted r)) (map register_named list)
+-- The list names the register of the bank, and it isn't selected.
+abbrev pub is_lacking : List AllowedDigest → List Selection → Alg → (register : ℕ) → Bool
+is_lacking list quoted bank register = names list bank register && not (is_among quoted (register_of bank register))
+
+-- the first such register of a bank, and of these banks
+abbrev pub first_lacking_of : List AllowedDigest → List Selection → Alg → Option NotSelected
+first_lacking_of list quoted bank = option_map (register_of bank) (find (is_lacking list quoted bank) all_registers)
+
+abbrev pub first_lacking : List AllowedDigest → List Selection → (banks : List Alg) → Option NotSelected
+first_lacking list quoted [] = None
+first_lacking list quoted (bank ∷ banks) =
+    option_or (first_lacking_of list quoted bank) (first_lacking list quoted banks)
 
 -- a list without a digest, and any other
 abbrev pub on_list : (json : Bool) → List AllowedDigest → (lacking : Option NotSelected) → Verdict → Verdict

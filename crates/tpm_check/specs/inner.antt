@@ -3,5 +3,6 @@ pub mod AllowIndex
 pub mod AllowReading
 pub mod CheckAttest
 pub mod Comparing
+pub mod LookingUp
 pub mod SecureBootLines
 pub mod Told

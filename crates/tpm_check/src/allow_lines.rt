@@ -1,16 +1,22 @@
 //! The lines of a list of allowed digests.
 
-ghost use Rattle.std.specs.Prelude.{◌≡◌, ◌<◌, ◌≤◌, ◌∷◌, IfOk, IfSome, length, option_map, position};
-ghost use Rattle.std.specs.List.{slice_split};
+ghost use Rattle.std.specs.Prelude.{◌≡◌, ◌<◌, ◌≤◌, ◌∷◌, true, false, IfOk, IfSome, MatchResult, length};
+ghost use Rattle.std.specs.Prelude.{option_map, position, unwrap_or};
+ghost use Rattle.hex.specs.Hex.{decode_sized, hex_digit_value};
+ghost use Rattle.memchr.specs.Find.{is_byte};
+ghost use Rattle.std.specs.List.{before_first, slice_split};
 ghost use Rattle.tpm_output.specs.Text.{bytes_in};
-ghost use Rattle.tpm_check.specs.AllowLines.{allow_line, allowed_in, allowing, allowing_in, before_comment};
-ghost use Rattle.tpm_check.specs.AllowLines.{begins_comment, is_blank, is_feed};
+ghost use Rattle.tpm_check.specs.AllowLines.{allow_line, allowed_in, allowing, allowing_in, is_blank, is_feed};
 ghost use Rattle.tpm_check.specs.inner.AllowReading.{lines_left, read_as};
 
 use crate::stated::{bank_named, cut, register_named};
+use memchr::memchr;
 use std::alloc::{AllocError, Global};
 use tpm_types::{Alg, DIGEST_BYTES, HashedDigest, PcrIndex};
 use tpm_vouched::AllowedDigest;
+
+/// No line that allows a digest has fewer bytes, with the line feed behind it.
+const SHORTEST_LINE: usize = 48;
 
 /// What a line says.
 #[derive(Drop)]
@@ -23,6 +29,39 @@ pub(crate) enum AllowLine {
     Wrong,
 }
 
+// The value of a hexadecimal digit, and 16 of any other byte.
+fn digit_value(digit: u8) -> u8
+    ensures { result ≡ unwrap_or (hex_digit_value digit) 16 }
+{
+    match digit {
+        b'0'..=b'9' => digit - b'0',
+        b'a'..=b'f' => digit - b'a' + 10,
+        b'A'..=b'F' => digit - b'A' + 10,
+        _ => 16,
+    }
+}
+
+// Whether these are the digits of so many bytes, which are then filled. Each digit is looked at, without a branch.
+fn decode(digits: &[u8], bytes: &mut [u8]) -> bool
+    ensures { MatchResult (decode_sized digits.now (length bytes.old))
+        (λ spelled. (result ≡ true) × (bytes.new ≡ spelled)) (λ _. result ≡ false) }
+{
+    if digits.len() % 2 != 0 {
+        return false;
+    }
+    if digits.len() / 2 != bytes.len() {
+        return false;
+    }
+    let mut most = 0;
+    for i in 0..bytes.len() {
+        let high = digit_value(digits[2 * i]);
+        let low = digit_value(digits[2 * i + 1]);
+        bytes[i] = high % 16 * 16 + low % 16;
+        most = most.max(high).max(low);
+    }
+    most < 16
+}
+
 // What hexadecimal digits allow, where they spell a digest of the bank.
 #[tactic(auto, using(crate::proofs::AllowReading::spelled, crate::proofs::AllowReading::not_spelled))]
 fn read_digest(bank: Alg, register: PcrIndex, digits: &[u8]) -> AllowLine
@@ -30,12 +69,30 @@ fn read_digest(bank: Alg, register: PcrIndex, digits: &[u8]) -> AllowLine
 {
     let mut bytes = [0; DIGEST_BYTES];
     let bytes = &mut bytes[..bank.digest_len()];
-    if hex::decode_to_slice(digits, bytes).is_err() {
+    if !decode(digits, bytes) {
         return AllowLine::Wrong;
     }
     match HashedDigest::new(bank, bytes) {
         Some(digest) => AllowLine::Allows(AllowedDigest { register, digest }),
         None => AllowLine::Wrong,
+    }
+}
+
+// The place of the first byte that is this one.
+#[tactic(auto, using(crate::proofs::AllowReading::first_byte))]
+fn first(byte: u8, bytes: &[u8]) -> Option<usize>
+    ensures { result ≡ position (is_byte byte) bytes.now }
+{
+    memchr(byte, bytes)
+}
+
+// What stands before it, or all where there is none.
+fn before(byte: u8, bytes: &[u8]) -> &[u8]
+    ensures { result.now ≡ before_first (is_byte byte) bytes.now }
+{
+    match first(byte, bytes) {
+        Some(at) => &bytes[..at],
+        None => bytes,
     }
 }
 
@@ -45,25 +102,10 @@ fn read_words(text: &[u8]) -> AllowLine
 {
     let (bank, behind) = cut(text);
     let (register, behind) = cut(behind);
-    let (digits, _) = cut(behind);
+    let digits = before(b' ', behind);
     match (bank_named(bank), register_named(register)) {
         (Some(bank), Some(register)) => read_digest(bank, register, digits),
         _ => AllowLine::Wrong,
-    }
-}
-
-fn comment_in(line: &[u8]) -> Option<usize>
-    ensures { result ≡ position begins_comment line.now }
-{
-    line.iter().position(|byte| *byte == b'#')
-}
-
-fn before_comment(line: &[u8]) -> &[u8]
-    ensures { result.now ≡ before_comment line.now }
-{
-    match comment_in(line) {
-        Some(at) => &line[..at],
-        None => line,
     }
 }
 
@@ -76,17 +118,11 @@ fn is_blank(text: &[u8]) -> bool
 fn read_line(line: &[u8]) -> AllowLine
     ensures { result ≡ allow_line line.now }
 {
-    let text = before_comment(line);
+    let text = before(b'#', line);
     if is_blank(text) {
         return AllowLine::Nothing;
     }
     read_words(text)
-}
-
-fn first_feed(bytes: &[u8]) -> Option<usize>
-    ensures { result ≡ position is_feed bytes.now }
-{
-    bytes.iter().position(|byte| *byte == b'\n')
 }
 
 // The first line, and what stands behind its line feed, where it has one.
@@ -96,7 +132,7 @@ fn cut_line(bytes: &[u8]) -> (&[u8], Option<&[u8]>)
         ≡ result.0.now ∷ lines_left (option_map (λ b. b.now) result.1) }
     ensures shorter { IfSome result.1 (λ behind. length behind.now < length bytes.now) }
 {
-    match first_feed(bytes) {
+    match first(b'\n', bytes) {
         Some(at) => (&bytes[..at], Some(&bytes[at + 1..])),
         None => (bytes, None),
     }
@@ -115,7 +151,7 @@ pub(crate) fn read_allowed(
     requires { length bytes.now ≤ 16777216 }
     ensures { IfOk result (λ read. read_as read ≡ allowed_in bytes.now) }
 {
-    let mut found = Vec::new(alloc);
+    let mut found = Vec::with_capacity(alloc, bytes.len() / SHORTEST_LINE + 1)?;
     let mut number = 0;
     let mut left = Some(bytes);
     while let Some(lines) = left {

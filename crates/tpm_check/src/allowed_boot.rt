@@ -1,56 +1,86 @@
 //! The subcommand `check` of a list of allowed digests, beside a quote as it was signed.
 
-ghost use Rattle.std.specs.Prelude.{◌≡◌, ℕ, List, Ok, Some, IfOk, option_map, string_bytes};
+ghost use Rattle.std.specs.Prelude.{◌≡◌, ℕ, List, Ok, Some, false, map, IfOk, IfSome, IsErrOf, option_map, string_bytes};
 ghost use Rattle.std.specs.Io.KnownBytes.{Appends};
+ghost use Rattle.tpm_wire.specs.Sources.{IsWhereItFailed};
+ghost use Rattle.tpm_log.specs.Events.{ParsedLog, shown};
+ghost use Rattle.tpm_events.specs.ListEvents.{most_read};
+ghost use Rattle.tpm_output.specs.declared.fault.ToolFault.TheVariants.{InputTooLong, Read};
 ghost use Rattle.tpm_output.specs.declared.status.Status.TheVariants.{Refused};
 ghost use Rattle.tpm_output.specs.Faults.{FailsByMemoryOrWrite};
+ghost use Rattle.tpm_output.specs.InputLines.{CountsRead};
+ghost use Rattle.tpm_output.specs.Reads.{ReadsNoMore, ReadsUpTo};
 ghost use Rattle.tpm_check.specs.AllowTold.{too_long_text};
 ghost use Rattle.tpm_check.specs.AllowedBoot.{ChecksBeside, SaysBehind, SaysBeside, SaysOfList};
-ghost use Rattle.tpm_check.specs.AllowedBoot.{SaysOfRead, SaysOfSelected, on_boot};
+ghost use Rattle.tpm_check.specs.AllowedBoot.{AreAllOf, SaysOfRead, SaysOfSelected, on_boot, on_found};
+ghost use Rattle.tpm_check.specs.CheckAttest.{Says};
+ghost use Rattle.tpm_check.specs.Extensions.{extensions_in};
 ghost use Rattle.tpm_check.specs.inner.CheckAttest.{Adds};
+ghost use Rattle.tpm_check.specs.inner.LookingUp.{IsLookedUp};
 ghost use Rattle.tpm_check.specs.Compare.{Verdict, not_a_register_text, printed};
 
+use crate::allow_index::AllowIndex;
 use crate::allow_lines::read_allowed;
 use crate::allow_told::push_beside_list;
 use crate::beside::Beside;
 use crate::check_json::ok_text;
 use crate::checked::tell_fault;
 use crate::compared::{MOST_BYTES, no_register_text};
+use crate::extensions::{Extension, extensions_in};
 use crate::judged::answer_to_attest;
+use crate::looked_up::{LookedUp, look_up};
 use crate::quoted_boot::{quoted_banks, selected};
 use crate::register_text::push_not_a_register;
 use crate::replayed::{ReplayedLog, replayed};
 use crate::told_secure_boot::push_log;
 use std::alloc::{AllocError, Global};
 use std::io::Write;
+use tpm_events::listed_events::MOST_READ;
 use tpm_log::Log;
 use tpm_options::CheckOptions;
 use tpm_output::answer::Answer;
 use tpm_output::fault::ToolFault;
+use tpm_output::reads::read_up_to;
 use tpm_output::status::Status;
+use tpm_pcr::Registers;
 use tpm_types::Selections;
-use tpm_vouched::{AllowList, AllowedDigest};
+use tpm_vouched::AllowedDigest;
+use tpm_wire::Source;
+
+// What is printed of a log beside these digests, where the log's that aren't among them were found.
+fn answer_to_found(
+    alloc: Global,
+    json: bool,
+    list: &AllowIndex<'_>,
+    quoted: &Selections,
+    found: &[Extension],
+) -> Result<Answer, AllocError>
+    ensures { IfOk result (λ a. Says (on_found json list.now quoted.now found.now)
+        a.status (string_bytes a.text)) }
+{
+    if let [] = list.digests() {
+        return Answer::of(alloc, Status::Refused, no_register_text(json, false));
+    }
+    let mut text = String::new(alloc);
+    let status = push_beside_list(&mut text, json, list, quoted, found)?;
+    Ok(Answer { status, text })
+}
 
 // What is printed of a log beside these digests.
 fn answer_to_digests(
     alloc: Global,
     json: bool,
-    digests: Vec<AllowedDigest>,
+    digests: &[AllowedDigest],
     quoted: &Selections,
     log: &Log<'_>,
 ) -> Result<Answer, AllocError>
     ensures { IfOk result (λ a. SaysOfRead
-        (record { json = json; selections = quoted.now; log = log.now }) (Ok digests.items)
+        (record { json = json; selections = quoted.now; log = log.now }) (Ok digests.now)
         (printed a.status (string_bytes a.text))) }
 {
-    let mut digests = digests;
-    let list = AllowList::new(digests.as_mut_slice());
-    if let [] = list.digests() {
-        return Answer::of(alloc, Status::Refused, no_register_text(json, false));
-    }
-    let mut text = String::new(alloc);
-    let status = push_beside_list(alloc, &mut text, json, &list, quoted, log)?;
-    Ok(Answer { status, text })
+    let list = AllowIndex::new(alloc, digests)?;
+    let found = extensions_in(alloc, Some(&list), log)?;
+    answer_to_found(alloc, json, &list, quoted, found.as_slice())
 }
 
 // That the line of this number is wrong.
@@ -89,7 +119,7 @@ fn answer_to_list(
         return Answer::of(alloc, Status::Refused, too_long_text(json));
     }
     match read_allowed(alloc, bytes)? {
-        Ok(digests) => answer_to_digests(alloc, json, digests, quoted, log),
+        Ok(digests) => answer_to_digests(alloc, json, digests.as_slice(), quoted, log),
         Err(number) => wrong_line(alloc, json, number),
     }
 }
@@ -201,5 +231,112 @@ pub(crate) fn print_beside<W: Write>(
     match replayed(bytes) {
         Ok(found) => answer_beside(alloc, options, attest, allow, &found)?.print(out),
         Err(fault) => tell_fault(alloc, options.json, &fault, out),
+    }
+}
+
+// The digests of a list, where it isn't too long and no line is wrong.
+fn digests_of(alloc: Global, bytes: &[u8]) -> Result<Option<Vec<AllowedDigest>>, AllocError>
+    ensures { IfOk result (λ read. IfSome read (λ digests. AreAllOf bytes.now digests.items)) }
+{
+    if bytes.len() > MOST_BYTES {
+        return Ok(None);
+    }
+    match read_allowed(alloc, bytes)? {
+        Ok(digests) => Ok(Some(digests)),
+        Err(_) => Ok(None),
+    }
+}
+
+// What is printed of a log beside a quote and these digests, by the registers that it gives and those of its digests
+// that aren't among them.
+fn answer_to_quoted(
+    alloc: Global,
+    options: &CheckOptions<'_>,
+    attest: &[u8],
+    list: &AllowIndex<'_>,
+    registers: &Registers,
+    found: &[Extension],
+) -> Result<Answer, AllocError>
+    requires { options.now.secure_boot ≡ false }
+    ensures { IfOk result (λ a. (allow : List ℕ) (l : ParsedLog)
+        → AreAllOf allow list.now
+        → found.now ≡ extensions_in (Some list.now) l.size (map shown l.records)
+        → SaysBeside options.now (record { attest = attest.now; allow = Some allow })
+        registers.now l (printed a.status (string_bytes a.text))) }
+{
+    let json = options.json;
+    let first = answer_to_attest(alloc, &Beside { registers, json }, options, attest)?;
+    let mut text = first.text;
+    if first.status == Status::Refused {
+        text.push_str(ok_text(json, Status::Refused))?;
+        return Ok(Answer::refused(text));
+    }
+    let last = answer_to_found(alloc, json, list, &selected(attest), found)?;
+    text.push_str(last.text.as_str())?;
+    text.push_str(ok_text(json, last.status))?;
+    Ok(Answer {
+        status: last.status,
+        text,
+    })
+}
+
+// Prints that, or the fault of the log.
+fn print_found<W: Write>(
+    alloc: Global,
+    options: &CheckOptions<'_>,
+    attest: &[u8],
+    list: &AllowIndex<'_>,
+    found: &LookedUp,
+    out: &mut W,
+) -> Result<Status, ToolFault>
+    requires { options.now.secure_boot ≡ false }
+    ensures ok { IfOk result (λ status. (allow bytes : List ℕ)
+        → AreAllOf allow list.now
+        → IsLookedUp list.now found.now bytes
+        → (text : List ℕ)
+        × ChecksBeside options.now
+        (record { attest = attest.now; allow = Some allow }) bytes status text
+        × Appends (W.contents out.old) (W.contents out.new) text) }
+    ensures err { FailsByMemoryOrWrite result }
+{
+    match found.registers() {
+        Ok(registers) => {
+            let unknown = found.found.as_slice();
+            answer_to_quoted(alloc, options, attest, list, registers, unknown)?.print(out)
+        }
+        Err(fault) => tell_fault(alloc, options.json, &fault, out),
+    }
+}
+
+/// The same of the log that a source gives, which isn't held, unless the list has a fault.
+pub(crate) fn print_looked_up<L: Source, W: Write>(
+    alloc: Global,
+    log: &mut L,
+    options: &CheckOptions<'_>,
+    attest: &[u8],
+    allow: &[u8],
+    out: &mut W,
+) -> Result<Status, ToolFault>
+    requires { options.now.secure_boot ≡ false }
+    ensures failures { CountsRead (L.failed log.old) (L.failed log.new) result }
+    ensures stop { IsErrOf result Read → IsWhereItFailed (L.stopped log.new) }
+    ensures most { ReadsNoMore most_read (L.coming log.old) (L.coming log.new) }
+    ensures ok { IfOk result (λ status. (bytes : List ℕ) × (text : List ℕ)
+        × ReadsUpTo most_read (L.coming log.old) (L.coming log.new) bytes
+        × ChecksBeside options.now
+        (record { attest = attest.now; allow = Some allow.now }) bytes status text
+        × Appends (W.contents out.old) (W.contents out.new) text) }
+    ensures short { IsErrOf result InputTooLong → ⊥ }
+{
+    match digests_of(alloc, allow)? {
+        Some(digests) => {
+            let list = AllowIndex::new(alloc, digests.as_slice())?;
+            let found = look_up(alloc, log, &list)?;
+            print_found(alloc, options, attest, &list, &found, out)
+        }
+        None => {
+            let bytes = read_up_to(alloc, log, MOST_READ)?;
+            print_beside(alloc, options, attest, Some(allow), bytes.as_slice(), out)
+        }
     }
 }
