@@ -8,7 +8,6 @@ ghost use Rattle.tpm_check.specs.Compare.{status_if};
 
 use std::alloc::{AllocError, Global};
 use tpm_output::answer::Answer;
-use tpm_output::members::push_text_member;
 use tpm_output::status::Status;
 use tpm_output::text::{Pushed, push_refusal};
 use tpm_wire::Refusal;
@@ -27,7 +26,7 @@ fn push_hint_member(text: &mut String, hint: Option<&str>) -> Pushed
         ≡ string_bytes text.old ++ hint_member (option_map (λ h. h.now) hint.entry)) }
 {
     match hint {
-        Some(hint) => push_text_member(text, "hint", hint),
+        Some(hint) => write!(text, ",\"hint\":\"{hint}\""),
         None => Ok(()),
     }
 }

@@ -1,14 +1,16 @@
 //! The digests of variables' contents, which each bank tells again.
 
-ghost use Rattle.std.specs.Prelude.{◌≡◌, ◌++◌, IfSome, OnOk, string_bytes};
-ghost use Rattle.hex.specs.Hex.{encode_lower};
+ghost use Rattle.std.specs.Prelude.{◌≡◌, IfSome, OnOk, option_map};
 ghost use Rattle.tpm_types.specs.declared.alg.Alg.TheVariants.{Sha256};
 ghost use Rattle.tpm_hmac.specs.Hashes.{digest};
+ghost use Rattle.tpm_output.specs.Marks.{Bytes, Says};
 
-use std::alloc::Global;
+use std::alloc::{AllocError, Global};
 use std::marker::Model;
 use tpm_hmac::hash;
-use tpm_output::text::{Pushed, push_hex};
+use tpm_output::mark::{Mark, Value};
+use tpm_output::teller::{Teller, Told};
+use tpm_secure_boot::SecureBoot;
 use tpm_types::{Alg, Digest};
 
 // A content and its digest by SHA-256.
@@ -30,19 +32,6 @@ impl<'a> Model for Content<'a> {
     ghost invariant = { λ c. c.sha256 ≡ digest Sha256 c.bytes.now };
 }
 
-impl<'a> Content<'a> {
-    // The digest of these bytes, where they are the content.
-    fn digest_of(&self, bytes: &[u8]) -> Option<&Digest>
-        ensures { IfSome result (λ d. d.now ≡ digest Sha256 bytes.now) }
-    {
-        if self.bytes == bytes {
-            Some(&self.sha256)
-        } else {
-            None
-        }
-    }
-}
-
 /// The digests of the contents that were told, for the banks behind.
 #[derive(Drop)]
 pub(crate) struct ContentDigests<'a> {
@@ -62,24 +51,38 @@ impl<'a> ContentDigests<'a> {
         ensures { IfSome result (λ d. d.now ≡ digest Sha256 bytes.now) }
     {
         for content in &self.contents {
-            if let Some(digest) = content.digest_of(bytes) {
-                return Some(digest);
+            if content.bytes == bytes {
+                return Some(&content.sha256);
             }
         }
         None
     }
 
-    /// Adds the digest of a content by SHA-256, in hexadecimal. A content is hashed once.
-    pub(crate) fn push(&mut self, text: &mut String, bytes: &'a [u8]) -> Pushed
-        ensures { OnOk result (string_bytes text.new
-            ≡ string_bytes text.old ++ encode_lower (digest Sha256 bytes.now)) }
-    {
-        if let Some(digest) = self.known(bytes) {
-            return push_hex(text, digest.as_slice());
+    /// Hashes the contents that are found in a bank, each once.
+    pub(crate) fn add(&mut self, found: &SecureBoot<'a>) -> Result<(), AllocError> {
+        for variable in [found.pk, found.kek, found.db, found.dbx] {
+            if let Some(variable) = variable {
+                let bytes = variable.value;
+                if self.known(bytes).is_none() {
+                    let sha256 = hash(Alg::Sha256, &[bytes]);
+                    self.contents.push(Content { bytes, sha256 })?;
+                }
+            }
         }
-        let sha256 = hash(Alg::Sha256, &[bytes]);
-        push_hex(text, sha256.as_slice())?;
-        self.contents.push(Content { bytes, sha256 })?;
         Ok(())
+    }
+
+    /// Tells the digest of a content by SHA-256. It is hashed where it wasn't before.
+    pub(crate) fn tell<T: Teller>(&self, out: &mut T, name: Option<&str>, bytes: &[u8]) -> Told
+        ensures { OnOk result (T.state out.new ≡ T.tells (T.state out.old)
+            (Says (option_map (λ n. n.now) name.entry) (Bytes (digest Sha256 bytes.now)))) }
+    {
+        match self.known(bytes) {
+            Some(sha256) => out.tell(&Mark::Says(name, Value::Bytes(sha256.as_slice()))),
+            None => {
+                let sha256 = hash(Alg::Sha256, &[bytes]);
+                out.tell(&Mark::Says(name, Value::Bytes(sha256.as_slice())))
+            }
+        }
     }
 }

@@ -1,25 +1,32 @@
 //! What is told of a thing, in lines or as an object of JSON.
 
-ghost use Rattle.std.specs.Prelude.{◌≡◌, ◌++◌, IfOk, OnOk, string_bytes};
-ghost use Rattle.tpm_check.specs.CheckJson.{rendered};
+ghost use Rattle.std.specs.Prelude.{◌≡◌, ◌++◌, ℕ, List, IfOk, OnOk, string_bytes};
+ghost use Rattle.tpm_check.specs.CheckJson.{rendered, told_as};
 
 use std::alloc::{AllocError, Global};
 use tpm_output::answer::Answer;
 use tpm_output::status::Status;
-use tpm_output::tell::{Tell, push_json, push_lines};
+use tpm_output::tell::{Tell, push_lines, push_object};
 use tpm_output::text::Pushed;
 
-// Adds a thing, in lines or as an object of JSON.
-fn push_rendered<X: Tell>(text: &mut String, json: bool, thing: &X) -> Pushed
+/// A thing that is told in lines by other words than as an object.
+pub(crate) trait InLines: Tell {
+    ghost lines: { Self → List ℕ };
+
+    /// Adds its lines.
+    fn push_lines(&self, text: &mut String) -> Pushed
+        ensures { OnOk result (string_bytes text.new ≡ string_bytes text.old ++ lines self.now) };
+}
+
+/// Adds a thing in its lines or as an object of JSON.
+pub(crate) fn push_told<X: InLines>(text: &mut String, json: bool, thing: &X) -> Pushed
     ensures { OnOk result (string_bytes text.new
-        ≡ string_bytes text.old ++ rendered json (X.marks thing.now)) }
+        ≡ string_bytes text.old ++ told_as json (X.lines thing.now) (X.marks thing.now)) }
 {
     if json {
-        text.push_str("{")?;
-        push_json(text, false, thing)?;
-        text.push_str("}\n")
+        push_object(text, thing)
     } else {
-        push_lines(text, thing)
+        thing.push_lines(text)
     }
 }
 
@@ -34,6 +41,10 @@ pub(crate) fn rendered<X: Tell>(
         × (string_bytes a.text ≡ rendered json (X.marks thing.now))) }
 {
     let mut text = String::new(alloc);
-    push_rendered(&mut text, json, thing)?;
+    if json {
+        push_object(&mut text, thing)?;
+    } else {
+        push_lines(&mut text, thing)?;
+    }
     Ok(Answer { status, text })
 }
