@@ -4,8 +4,9 @@ use Rattle.std.proofs.Common.{◌*◌, append_assoc, arith, Bool, true, false, e
 use Rattle.std.proofs.lemmas.List.{append-nil, take_all}
 use Rattle.std.proofs.lemmas.List.Splits.{slice_split_first, slice_split_none}
 use Rattle.std.proofs.lemmas.Grind.{common_steps}
-use Rattle.std.proofs.lemmas.List.Sums.{fails_before_first}
-use Rattle.std.specs.Prelude.{position}
+use Rattle.std.proofs.lemmas.List.Sums.{fails_before_first, position_or_len_is}
+use Rattle.memchr.specs.Find.{IsFirstByte}
+use Rattle.std.specs.Prelude.{position, slice_index, Option}
 use Rattle.std.proofs.lemmas.Bool.{eqb-true}
 use Rattle.hex.specs.Hex.{decode_of, decode_sized}
 use Rattle.hex.specs.declared.error.FromHexError.{FromHexError}
@@ -16,7 +17,6 @@ use Rattle.tpm_output.specs.Text.{bytes_in, value_of}
 use Rattle.std.specs.List.{position_or_len, slice_split}
 use Rattle.tpm_vouched.specs.declared.allowed.AllowedDigest.{AllowedDigest}
 use Rattle.tpm_check.specs.declared.allow_lines.AllowLine.TheVariants.{Allows, Wrong}
-use Rattle.tpm_check.specs.declared.allow_lines.AllowLine.{AllowLine}
 use Rattle.tpm_check.specs.AllowLines.{AllowRead, allowing, is_feed, with_allowed}
 use Rattle.tpm_check.specs.inner.AllowReading.{behind_these}
 
@@ -31,6 +31,25 @@ pub to_end : (found : List AllowedDigest) → behind_these found (Ok []) ≡ Ok 
 to_end found = ap Ok (append-nil found)
 
 -- ---- a line
+
+not_true : (b : Bool) → ¬ (b ≡ true) → b ≡ false
+not_true true isnt = absurd (isnt refl)
+not_true false isnt = refl
+
+-- The first byte that passes is at its position.
+pub first_byte : (test : ℕ → Bool) (bytes : List ℕ) (r : Option ℕ) → IsFirstByte test bytes r → r ≡ position test bytes
+first_byte test bytes None none =
+    let end : position_or_len test bytes ≡ length bytes =
+    position_or_len_is test bytes (length bytes) 0 (omega arith) (λ k less. not_true (test (slice_index bytes k)) (none k (omega arith) less))
+    (λ less. absurd (omega (arith, less))) in
+    grind (arith, common_steps)
+first_byte test bytes (Some k) found =
+    let before = found.0 in
+    let inside : k < length bytes = before.high in
+    let is : position_or_len test bytes ≡ k =
+    position_or_len_is test bytes k 0 (omega (arith, inside)) (λ j less. not_true (test (slice_index bytes j)) (before.before j (omega arith) less))
+    (λ less. found.1) in
+    grind (arith, common_steps)
 
 module _ (bytes : List ℕ) where
   -- It ends at the first line feed.

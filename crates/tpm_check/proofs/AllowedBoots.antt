@@ -1,16 +1,28 @@
 -- A log beside a quote and a list of allowed digests.
-use Rattle.std.proofs.Common.{◌≡◌, List, ℕ, ◌++◌, ap, ◌∙◌, append_assoc, inl, subst, sym, Ok}
-use Rattle.tpm_pcr.specs.Registers.{Registers}
+use Rattle.std.proofs.Common.{◌≡◌, ◌≤◌, Bool, List, [], ◌∷◌, ℕ, ◌++◌, ap, ◌∙◌, append_assoc, arith, false, inl, length, map, refl, subst, sym, Ok, Some}
+use Rattle.std.specs.Prelude.{MatchOption, Option}
+use Rattle.tpm_types.specs.declared.tpms.Selection.{Selection}
+use Rattle.tpm_types.specs.Alg.{all_algs}
+use Rattle.tpm_pcr.specs.Registers.{Registers, value_in}
 use Rattle.tpm_log.specs.Changes.{AreAfter}
-use Rattle.tpm_log.specs.Events.{ParsedLog, Parses}
+use Rattle.tpm_log.specs.Events.{ParsedLog, Parses, shown}
 use Rattle.tpm_log.specs.Replays.{Replays}
 use Rattle.tpm_options.specs.declared.CheckOptions.{CheckOptions}
+use Rattle.tpm_vouched.specs.declared.allowed.AllowedDigest.{AllowedDigest}
+use Rattle.tpm_output.specs.declared.status.Status.TheVariants.{Done}
 use Rattle.tpm_output.specs.declared.status.Status.{Status}
-use Rattle.tpm_check.specs.AllowedBoot.{ChecksBeside, QuoteFiles, SaysBeside}
+use Rattle.tpm_check.specs.inner.AllowedBoot.{AreAllOf}
+use Rattle.tpm_check.specs.AllowedBoot.{ChecksBeside, QuoteFiles, SaysBehind, SaysBeside, SaysOfList, on_boot, on_found}
 use Rattle.tpm_output.specs.Status.{both}
-use Rattle.tpm_check.specs.CheckAttest.{behind}
+use Rattle.tpm_check.specs.Asked.{Asked}
+use Rattle.tpm_check.specs.QuotedBoot.{ChecksBoot}
+use Rattle.tpm_check.specs.CheckAttest.{ChecksAttest, OnDone, Says, Selects, behind}
 use Rattle.tpm_check.specs.inner.CheckAttest.{Adds}
-use Rattle.tpm_check.specs.Compare.{Verdict, printed}
+use Rattle.tpm_check.specs.Compare.{Verdict, beside, printed}
+use Rattle.tpm_check.specs.AllowTold.{first_lacking, on_lacking, on_unknown}
+use Rattle.tpm_check.specs.CheckJson.{ok_text}
+use Rattle.tpm_check.specs.Extensions.{Extension, extensions_in}
+use Rattle.tpm_check.specs.SecureBootLines.{TellsSecureBoot, ended}
 
 -- That is what is printed of a log.
 pub checks_beside : (o : CheckOptions) (g : QuoteFiles) (bytes : List ℕ) (found : Registers) (l : ParsedLog) (status same : Status) (text : List ℕ)
@@ -26,3 +38,53 @@ adds_behind v w one status old mid new first text is = (
   is ∙ ap (λ (s : Status). both s w.status) first.0,
   text ∙ ap (λ (t : List ℕ). t ++ w.text) first.1 ∙ append_assoc old v.text w.text,
 )
+
+-- ---- a list that has no fault
+
+module _ (o : CheckOptions) (attest allow : List ℕ) (found : Registers) (l : ParsedLog) (digests : List AllowedDigest) (are : AreAllOf allow digests)
+    (no-boot : o.secure_boot ≡ false) where
+  abbrev files : QuoteFiles
+  files = record { attest = attest; allow = Some allow }
+
+  abbrev told-behind : (first v : Verdict) → Type 0
+  told-behind first v = (second : Verdict) × SaysBehind o files l second × Says (ended o.json (behind first second)) v.status v.text
+
+  on_done : (first v : Verdict) (s : Status) → s ≡ first.status → OnDone s (told-behind first v) (Says (ended o.json first) v.status v.text)
+      → OnDone first.status (told-behind first v) (Says (ended o.json first) v.status v.text)
+  on_done first v s is said =
+      subst (λ (x : Status). OnDone x (told-behind first v) (Says (ended o.json first) v.status v.text)) is said
+
+  -- what is said behind a quote that is the one that was asked for
+  pub says_behind : (first last v : Verdict) → ChecksAttest (beside o.json (value_in found.banks)) o attest first → first.status ≡ Done
+      → (selections : List Selection) → Selects attest selections
+      → Says (on_found o.json digests selections (extensions_in (Some digests) l.size (map shown l.records))) last.status last.text
+      → v.status ≡ last.status → v.text ≡ (first.text ++ last.text) ++ ok_text o.json last.status → SaysBeside o files found l v
+  says_behind first last v checks done selections selects told status text =
+      let listed : SaysOfList (record { json = o.json; selections = selections; log = l }) allow last = rw (are.0, are.1) told in
+      let boot : Says (behind (on_boot o.secure_boot o selections l) last) last.status last.text = rw no-boot (refl, refl) in
+      let says : Says (ended o.json (behind first last)) v.status v.text = rw done (status, text) in (
+        first,
+        checks,
+        on_done first v Done (sym done) (last, (selections, selects, (last, listed, boot)), says),
+      )
+
+-- ---- what is said beside a list that has a digest
+
+pub found_of_some : (json : Bool) (list : List AllowedDigest) (selections : List Selection) (found : List Extension) (status : Status)
+    (old new : List ℕ) → 1 ≤ length list → old ≡ []
+    → Adds (on_lacking json (first_lacking list selections all_algs) (on_unknown json list found)) status old new
+    → Says (on_found json list selections found) status new
+found_of_some json [] selections found status old new some none adds = absurd (omega (arith, some))
+found_of_some json (d ∷ ds) selections found status old new some none adds =
+    let v = on_lacking json (first_lacking (d ∷ ds) selections all_algs) (on_unknown json (d ∷ ds) found) in
+    (adds.0, adds.1 ∙ ap (λ (o : List ℕ). o ++ v.text) none)
+
+-- ---- what is asked beside both
+
+pub checks_boot : (a : Asked) (attest allow bytes : List ℕ) (status : Status) (text : List ℕ) → a.attest ≡ Some attest → a.allow ≡ Some allow
+    → ChecksBeside a.options (record { attest = attest; allow = Some allow }) bytes status text → ChecksBoot a bytes status text
+checks_boot a attest allow bytes status text quoted listed checks =
+    let alone = TellsSecureBoot a.options bytes status text in
+    let beside-list = λ (list : Option (List ℕ)) (quote : List ℕ). ChecksBeside a.options (record { attest = quote; allow = list }) bytes status text in
+    let told : beside-list a.allow attest = subst (λ (list : Option (List ℕ)). beside-list list attest) (sym listed) checks in
+    subst (λ (quote : Option (List ℕ)). MatchOption quote alone (beside-list a.allow)) (sym quoted) told

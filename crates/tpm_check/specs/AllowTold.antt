@@ -1,57 +1,45 @@
 -- What is printed of a log beside a list of allowed digests (this profile).
 use Rattle.std.specs.Prelude.{ℕ, zero, suc, Bool, true, false, not, List, [], ◌∷◌, ◌++◌, codes, find, flat_map, map}
-use Rattle.std.specs.Prelude.{Option, Some, None, if◌then◌else◌}
-use Rattle.std.specs.Fmt.{decimal}
-use Rattle.std.specs.Int.{to_be_bytes, w32}
+use Rattle.std.specs.Prelude.{◌&&◌, Option, Some, None, option_map, if◌then◌else◌}
 use Rattle.std.specs.List.{list_any}
-use Rattle.hex.specs.Hex.{encode_lower}
+use Rattle.std.specs.Option.{option_or}
 use Rattle.tpm_types.specs.declared.alg.Alg.{Alg}
 use Rattle.tpm_types.specs.declared.tpms.Selection.{Selection}
 use Rattle.tpm_types.specs.Alg.{alg_name, all_algs}
 use Rattle.tpm_quote.specs.declared.attest.NotSelected.{NotSelected}
-use Rattle.tpm_quote.specs.Attests.{is_among}
-use Rattle.tpm_event_data.specs.EventTypes.{event_type_name}
-use Rattle.tpm_event_data.specs.Events.{Shown}
+use Rattle.tpm_pcr.specs.Registers.{all_registers}
+use Rattle.tpm_quote.specs.Attests.{is_among, register_of}
 use Rattle.tpm_vouched.specs.declared.allowed.AllowedDigest.{AllowedDigest}
-use Rattle.tpm_vouched.specs.Allowed.{names, register_named}
+use Rattle.tpm_vouched.specs.Allowed.{names}
 use Rattle.tpm_output.specs.declared.status.Status.TheVariants.{Done, Refused}
 use Rattle.tpm_output.specs.declared.status.Status.{Status}
+use Rattle.tpm_output.specs.Fields.{as_line}
+use Rattle.tpm_output.specs.Marks.{Bytes, Mark, Number, Says as SaysOf, Truth, Word}
+use Rattle.tpm_output.specs.Telling.{says}
 use Rattle.tpm_output.specs.Text.{line}
-use Rattle.tpm_check.specs.CheckAttest.{lacks_line}
+use Rattle.tpm_event_marks.specs.Names.{type_value}
+use Rattle.tpm_check.specs.CheckAttest.{marks_of_lacks}
+use Rattle.tpm_check.specs.CheckJson.{rendered, told_as}
 use Rattle.tpm_check.specs.Compare.{Verdict, no_register_text}
-use Rattle.tpm_check.specs.Extensions.{Extension, extensions_in, is_of}
+use Rattle.tpm_check.specs.Extensions.{Extension, is_of}
 
--- ---- a digest
+-- ---- a digest that isn't on the list
 
--- the name of a record's type, or its number in eight hexadecimal digits where it has none
-abbrev pub name_or_digits : Option (List ℕ) → (kind : ℕ) → List ℕ
-name_or_digits (Some name) kind = name
-name_or_digits None kind = encode_lower (to_be_bytes w32 kind)
+-- the register, how many bytes of the log precede the record, and the record's type
+abbrev pub words_of_unknown : Extension → List Mark
+words_of_unknown x =
+    map (SaysOf None) (
+    Word (codes "unknown") ∷ Word (alg_name x.bank) ∷ Number x.register ∷ Word (codes "at") ∷ Number x.at
+    ∷ Bytes x.digest ∷ type_value x.kind ∷ [])
 
-abbrev pub type_text : (kind : ℕ) → List ℕ
-type_text kind = name_or_digits (event_type_name kind) kind
-
--- what stands before a digest that isn't on the list
-unfoldable pub unknown_begin : (json : Bool) → (bank : List ℕ) → (register at : ℕ) → List ℕ
-unknown_begin false bank register at =
-    codes "unknown " ++ (bank ++ (codes " " ++ (decimal register ++ (codes " at " ++ (decimal at ++ codes " ")))))
-unknown_begin true bank register at =
-    codes "{\"bank\":\"" ++ (bank ++ (codes "\",\"register\":" ++ (decimal register
-    ++ (codes ",\"allowed\":false,\"at\":" ++ (decimal at ++ codes ",\"digest\":\"")))))
-
--- what stands between it and the record's type, and behind that
-abbrev pub type_begin : (json : Bool) → List ℕ
-type_begin false = codes " "
-type_begin true = codes "\",\"type\":\""
-
-abbrev pub type_end : (json : Bool) → List ℕ
-type_end false = codes "\n"
-type_end true = codes "\"}\n"
+abbrev pub marks_of_unknown : Extension → List Mark
+marks_of_unknown x =
+    says (codes "bank") (Word (alg_name x.bank)) ∷ says (codes "register") (Number x.register)
+    ∷ says (codes "allowed") (Truth false) ∷ says (codes "at") (Number x.at)
+    ∷ says (codes "digest") (Bytes x.digest) ∷ says (codes "type") (type_value x.kind) ∷ []
 
 abbrev pub unknown_text : (json : Bool) → Extension → List ℕ
-unknown_text json x =
-    unknown_begin json (alg_name x.bank) x.register x.at
-    ++ (encode_lower x.digest ++ (type_begin json ++ (type_text x.kind ++ type_end json)))
+unknown_text json x = told_as json (as_line (words_of_unknown x)) (marks_of_unknown x)
 
 -- where it is of this register of the bank
 abbrev pub unknown_if : (json : Bool) → Alg → (register : ℕ) → Extension → List ℕ
@@ -60,16 +48,24 @@ unknown_if json bank register x = if is_of bank register x then unknown_text jso
 -- ---- a register
 
 -- that all digests are on the list
-unfoldable pub allowed_text : (json : Bool) → (bank : List ℕ) → (register : ℕ) → List ℕ
-allowed_text false bank register = line (codes "allowed" ∷ bank ∷ decimal register ∷ [])
-allowed_text true bank register =
-    codes "{\"bank\":\"" ++ (bank ++ (codes "\",\"register\":" ++ (decimal register ++ codes ",\"allowed\":true}\n")))
+abbrev pub words_of_allowed : Alg → (register : ℕ) → List Mark
+words_of_allowed bank register =
+    map (SaysOf None) (Word (codes "allowed") ∷ Word (alg_name bank) ∷ Number register ∷ [])
+
+abbrev pub marks_of_allowed : Alg → (register : ℕ) → List Mark
+marks_of_allowed bank register =
+    says (codes "bank") (Word (alg_name bank)) ∷ says (codes "register") (Number register)
+    ∷ says (codes "allowed") (Truth true) ∷ []
+
+abbrev pub allowed_text : (json : Bool) → Alg → (register : ℕ) → List ℕ
+allowed_text json bank register =
+    told_as json (as_line (words_of_allowed bank register)) (marks_of_allowed bank register)
 
 -- a register that the list names, by all that aren't on it
 abbrev pub named_told : (json : Bool) → List Extension → Alg → (register : ℕ) → List ℕ
 named_told json found bank register =
     if list_any (is_of bank register) found then flat_map (unknown_if json bank register) found
-    else allowed_text json (alg_name bank) register
+    else allowed_text json bank register
 
 abbrev pub register_told : (json : Bool) → List AllowedDigest → List Extension → Alg → (register : ℕ) → List ℕ
 register_told json list found bank register =
@@ -91,27 +87,31 @@ abbrev pub status_of_unknown : List Extension → Status
 status_of_unknown [] = Done
 status_of_unknown (x ∷ xs) = Refused
 
-abbrev pub on_records : (json : Bool) → List AllowedDigest → (size : ℕ) → List Shown → Verdict
-on_records json list size records = let found = extensions_in (Some list) size records in
-    record { status = status_of_unknown found; text = banks_told json list found }
+-- by those that aren't on it
+abbrev pub on_unknown : (json : Bool) → List AllowedDigest → List Extension → Verdict
+on_unknown json list found = record { status = status_of_unknown found; text = banks_told json list found }
 
 -- a register that the list names and that isn't selected
-unfoldable pub lacking_object : (bank : List ℕ) → (register : ℕ) → List ℕ
-lacking_object bank register =
-    codes "{\"selection\":\"lacks\",\"lacks\":{\"bank\":\""
-    ++ (bank ++ (codes "\",\"register\":" ++ (decimal register ++ codes "}}\n")))
-
 abbrev pub lacking_text : (json : Bool) → NotSelected → List ℕ
-lacking_text false r = lacks_line r
-lacking_text true r = lacking_object (alg_name r.bank) r.register
+lacking_text json r = rendered json (marks_of_lacks json r)
 
 -- the first of those, or else what is said of the records
 abbrev pub on_lacking : (json : Bool) → Option NotSelected → Verdict → Verdict
 on_lacking json (Some r) v = record { status = Refused; text = lacking_text json r }
 on_lacking json None v = v
 
-abbrev pub first_lacking : List AllowedDigest → List Selection → Option NotSelected
-first_lacking list quoted = find (λ r. not (is_among quoted r)) (map register_named list)
+-- The list names the register of the bank, and it isn't selected.
+abbrev pub is_lacking : List AllowedDigest → List Selection → Alg → (register : ℕ) → Bool
+is_lacking list quoted bank register = names list bank register && not (is_among quoted (register_of bank register))
+
+-- the first such register of a bank, and of these banks
+abbrev pub first_lacking_of : List AllowedDigest → List Selection → Alg → Option NotSelected
+first_lacking_of list quoted bank = option_map (register_of bank) (find (is_lacking list quoted bank) all_registers)
+
+abbrev pub first_lacking : List AllowedDigest → List Selection → (banks : List Alg) → Option NotSelected
+first_lacking list quoted [] = None
+first_lacking list quoted (bank ∷ banks) =
+    option_or (first_lacking_of list quoted bank) (first_lacking list quoted banks)
 
 -- a list without a digest, and any other
 abbrev pub on_list : (json : Bool) → List AllowedDigest → (lacking : Option NotSelected) → Verdict → Verdict

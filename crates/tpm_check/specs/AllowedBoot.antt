@@ -1,21 +1,22 @@
 -- What is printed of a log beside a quote, and a list of allowed digests (this profile).
-use Rattle.std.specs.Prelude.{◌⊎◌, ℕ, Bool, true, false, nat_lt, List, [], length, map, Ok, Err}
-use Rattle.std.specs.Prelude.{IsPermutation, Option, Some, None}
+use Rattle.std.specs.Prelude.{◌≡◌, ◌⊎◌, ℕ, Bool, true, false, nat_lt, List, [], length, map, Ok, Err}
+use Rattle.std.specs.Prelude.{Option, Some, None}
 use Rattle.tpm_types.specs.declared.tpms.Selection.{Selection}
+use Rattle.tpm_types.specs.Alg.{all_algs}
 use Rattle.tpm_pcr.specs.Registers.{Registers, value_in}
 use Rattle.tpm_log.specs.Changes.{AreAfter}
 use Rattle.tpm_log.specs.Events.{ParsedLog, Parses, shown}
 use Rattle.tpm_log.specs.Replays.{Replays}
 use Rattle.tpm_vouched.specs.declared.allowed.AllowedDigest.{AllowedDigest}
-use Rattle.tpm_vouched.specs.Order.{AreInOrder}
 use Rattle.tpm_options.specs.declared.CheckOptions.{CheckOptions}
 use Rattle.tpm_output.specs.declared.status.Status.TheVariants.{Done, Refused}
 use Rattle.tpm_output.specs.declared.status.Status.{Status}
 use Rattle.tpm_output.specs.InputLines.{most_bytes}
 use Rattle.tpm_check.specs.AllowLines.{AllowRead, allowed_in}
-use Rattle.tpm_check.specs.AllowTold.{first_lacking, on_list, on_records, too_long_text}
+use Rattle.tpm_check.specs.AllowTold.{first_lacking, on_list, on_unknown, too_long_text}
 use Rattle.tpm_check.specs.CheckAttest.{ChecksAttest, OnDone, Says, Selects, behind}
 use Rattle.tpm_check.specs.Compare.{Verdict, beside, not_a_register_text, printed}
+use Rattle.tpm_check.specs.Extensions.{Extension, extensions_in}
 use Rattle.tpm_check.specs.SecureBootLines.{TellsFault, ended, on_log, quoted_banks}
 
 -- ---- a list
@@ -26,20 +27,21 @@ pub record VouchedLog : Type 0 where
   pub selections : List Selection
   pub log : ParsedLog
 
+-- by the digests of the log that aren't on it
+abbrev pub on_found : (json : Bool) → List AllowedDigest → List Selection → List Extension → Verdict
+on_found json list selections found =
+    on_list json list (first_lacking list selections all_algs) (on_unknown json list found)
+
 abbrev pub on_digests : VouchedLog → List AllowedDigest → Verdict
 on_digests q list =
-    on_list q.json list (first_lacking list q.selections) (on_records q.json list q.log.size (map shown q.log.records))
+    on_found q.json list q.selections (extensions_in (Some list) q.log.size (map shown q.log.records))
 
 abbrev pub refused : List ℕ → Verdict
 refused text = record { status = Refused; text = text }
 
--- Of a list its digests in their order, or else the first line that is wrong.
+-- Of a list its digests, or else the first line that is wrong.
 abbrev pub SaysOfRead : VouchedLog → AllowRead → Verdict → Type 0
-SaysOfRead q (Ok digests) v =
-    (list : List AllowedDigest)
-    × IsPermutation digests list
-    × AreInOrder list
-    × Says (on_digests q list) v.status v.text
+SaysOfRead q (Ok digests) v = Says (on_digests q digests) v.status v.text
 SaysOfRead q (Err number) v = Says (refused (not_a_register_text q.json number)) v.status v.text
 
 -- The one holds of a list that is too long, and else the other.

@@ -4,7 +4,6 @@ use Rattle.std.specs.Prelude.{codes, Option, Some, None, option_map, unwrap_or}
 use Rattle.std.specs.Global.{Vec}
 use Rattle.std.specs.List.{list_any}
 use Rattle.std.specs.Str.{bytes_eq}
-use Rattle.std.specs.Fmt.{decimal}
 use Rattle.tpm_wire.specs.declared.refusal.Refusal.{Refusal}
 use Rattle.tpm_wire.specs.Path.{Spells, Fault}
 use Rattle.tpm_types.specs.declared.tpms.Selection.{Selection}
@@ -19,7 +18,6 @@ use Rattle.tpm_output.specs.declared.status.Status.{Status}
 use Rattle.tpm_output.specs.Marks.{Mark, Number, Says as SaysOf, Word}
 use Rattle.tpm_output.specs.Status.{both}
 use Rattle.tpm_output.specs.Telling.{list, object, says}
-use Rattle.tpm_output.specs.Text.{line}
 use Rattle.tpm_check.specs.AttestMarks.{marks_of_attest}
 use Rattle.tpm_check.specs.Check.{is_quote, mark_of_quote, verdict_word}
 use Rattle.tpm_check.specs.CheckJson.{refusal_text, rendered}
@@ -78,16 +76,17 @@ marks_of_signer None = []
 marks_of_signer (Some same) = says (codes "signer") (Word (verdict_word (Some same) (codes "not compared"))) ∷ []
 
 -- in a line as further words, and else as an object of its own
-abbrev pub marks_of_lacks : (json : Bool) → (bank : List ℕ) → ℕ → List Mark
-marks_of_lacks false bank register =
+abbrev pub marks_of_lacks : (json : Bool) → NotSelected → List Mark
+marks_of_lacks false r =
     list (codes "selection") (
-    SaysOf None (Word (codes "lacks")) ∷ SaysOf None (Word bank) ∷ SaysOf None (Number register) ∷ [])
-marks_of_lacks true bank register =
+    SaysOf None (Word (codes "lacks")) ∷ SaysOf None (Word (alg_name r.bank)) ∷ SaysOf None (Number r.register) ∷ [])
+marks_of_lacks true r =
     says (codes "selection") (Word (codes "lacks"))
-    ∷ object (codes "lacks") (says (codes "bank") (Word bank) ∷ says (codes "register") (Number register) ∷ [])
+    ∷ object (codes "lacks") (
+    says (codes "bank") (Word (alg_name r.bank)) ∷ says (codes "register") (Number r.register) ∷ [])
 
 abbrev pub marks_of_selected : (json : Bool) → Selected → List Mark
-marks_of_selected json (selects.Lacks r) = marks_of_lacks json (alg_name r.bank) r.register
+marks_of_selected json (selects.Lacks r) = marks_of_lacks json r
 marks_of_selected json selects.Covers = says (codes "selection") (Word (codes "covers")) ∷ []
 marks_of_selected json selects.Empty = says (codes "selection") (Word (codes "empty")) ∷ []
 marks_of_selected json selects.NotCompared = says (codes "selection") (Word (codes "not compared")) ∷ []
@@ -102,9 +101,6 @@ marks_of_judged json a j =
 abbrev pub on_attest : Beside → CheckOptions → Attest → Verdict
 on_attest b o a = let j = judged b o a in
     record { status = status_if (is_asked_for o j); text = rendered b.json (marks_of_judged b.json a j) }
-
-unfoldable pub lacks_line : NotSelected → List ℕ
-lacks_line r = line (codes "selection" ∷ codes "lacks" ∷ alg_name r.bank ∷ decimal r.register ∷ [])
 
 abbrev pub behind : Verdict → Verdict → Verdict
 behind v w = record { status = both v.status w.status; text = v.text ++ w.text }

@@ -1,16 +1,20 @@
 //! The lines of a list of allowed digests.
 
 ghost use Rattle.std.specs.Prelude.{◌≡◌, ◌<◌, ◌≤◌, ◌∷◌, IfOk, IfSome, length, option_map, position};
-ghost use Rattle.std.specs.List.{slice_split};
+ghost use Rattle.memchr.specs.Find.{is_byte};
+ghost use Rattle.std.specs.List.{before_first, slice_split};
 ghost use Rattle.tpm_output.specs.Text.{bytes_in};
-ghost use Rattle.tpm_check.specs.AllowLines.{allow_line, allowed_in, allowing, allowing_in, before_comment};
-ghost use Rattle.tpm_check.specs.AllowLines.{begins_comment, is_blank, is_feed};
+ghost use Rattle.tpm_check.specs.AllowLines.{allow_line, allowed_in, allowing, allowing_in, is_blank, is_feed};
 ghost use Rattle.tpm_check.specs.inner.AllowReading.{lines_left, read_as};
 
 use crate::stated::{bank_named, cut, register_named};
+use memchr::memchr;
 use std::alloc::{AllocError, Global};
 use tpm_types::{Alg, DIGEST_BYTES, HashedDigest, PcrIndex};
 use tpm_vouched::AllowedDigest;
+
+/// No line that allows a digest has fewer bytes, with the line feed behind it.
+const SHORTEST_LINE: usize = 48;
 
 /// What a line says.
 #[derive(Drop)]
@@ -39,31 +43,34 @@ fn read_digest(bank: Alg, register: PcrIndex, digits: &[u8]) -> AllowLine
     }
 }
 
+// The place of the first byte that is this one.
+#[tactic(auto, using(crate::proofs::AllowReading::first_byte))]
+fn first(byte: u8, bytes: &[u8]) -> Option<usize>
+    ensures { result ≡ position (is_byte byte) bytes.now }
+{
+    memchr(byte, bytes)
+}
+
+// What stands before it, or all where there is none.
+fn before(byte: u8, bytes: &[u8]) -> &[u8]
+    ensures { result.now ≡ before_first (is_byte byte) bytes.now }
+{
+    match first(byte, bytes) {
+        Some(at) => &bytes[..at],
+        None => bytes,
+    }
+}
+
 // What the words of a line say.
 fn read_words(text: &[u8]) -> AllowLine
     ensures { result ≡ allowing_in text.now }
 {
     let (bank, behind) = cut(text);
     let (register, behind) = cut(behind);
-    let (digits, _) = cut(behind);
+    let digits = before(b' ', behind);
     match (bank_named(bank), register_named(register)) {
         (Some(bank), Some(register)) => read_digest(bank, register, digits),
         _ => AllowLine::Wrong,
-    }
-}
-
-fn comment_in(line: &[u8]) -> Option<usize>
-    ensures { result ≡ position begins_comment line.now }
-{
-    line.iter().position(|byte| *byte == b'#')
-}
-
-fn before_comment(line: &[u8]) -> &[u8]
-    ensures { result.now ≡ before_comment line.now }
-{
-    match comment_in(line) {
-        Some(at) => &line[..at],
-        None => line,
     }
 }
 
@@ -76,17 +83,11 @@ fn is_blank(text: &[u8]) -> bool
 fn read_line(line: &[u8]) -> AllowLine
     ensures { result ≡ allow_line line.now }
 {
-    let text = before_comment(line);
+    let text = before(b'#', line);
     if is_blank(text) {
         return AllowLine::Nothing;
     }
     read_words(text)
-}
-
-fn first_feed(bytes: &[u8]) -> Option<usize>
-    ensures { result ≡ position is_feed bytes.now }
-{
-    bytes.iter().position(|byte| *byte == b'\n')
 }
 
 // The first line, and what stands behind its line feed, where it has one.
@@ -96,7 +97,7 @@ fn cut_line(bytes: &[u8]) -> (&[u8], Option<&[u8]>)
         ≡ result.0.now ∷ lines_left (option_map (λ b. b.now) result.1) }
     ensures shorter { IfSome result.1 (λ behind. length behind.now < length bytes.now) }
 {
-    match first_feed(bytes) {
+    match first(b'\n', bytes) {
         Some(at) => (&bytes[..at], Some(&bytes[at + 1..])),
         None => (bytes, None),
     }
@@ -115,7 +116,7 @@ pub(crate) fn read_allowed(
     requires { length bytes.now ≤ 16777216 }
     ensures { IfOk result (λ read. read_as read ≡ allowed_in bytes.now) }
 {
-    let mut found = Vec::new(alloc);
+    let mut found = Vec::with_capacity(alloc, bytes.len() / SHORTEST_LINE + 1)?;
     let mut number = 0;
     let mut left = Some(bytes);
     while let Some(lines) = left {

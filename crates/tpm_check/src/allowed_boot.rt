@@ -1,56 +1,72 @@
 //! The subcommand `check` of a list of allowed digests, beside a quote as it was signed.
 
-ghost use Rattle.std.specs.Prelude.{◌≡◌, ℕ, List, Ok, Some, IfOk, option_map, string_bytes};
+ghost use Rattle.std.specs.Prelude.{◌≡◌, ℕ, List, Ok, Some, false, map, IfOk, IfSome, IsErrOf};
+ghost use Rattle.std.specs.Prelude.{option_map, string_bytes};
 ghost use Rattle.std.specs.Io.KnownBytes.{Appends};
+ghost use Rattle.tpm_wire.specs.Sources.{IsWhereItFailed};
+ghost use Rattle.tpm_log.specs.Events.{ParsedLog, shown};
+ghost use Rattle.tpm_events.specs.ListEvents.{most_read};
+ghost use Rattle.tpm_output.specs.declared.fault.ToolFault.TheVariants.{InputTooLong, Read};
 ghost use Rattle.tpm_output.specs.declared.status.Status.TheVariants.{Refused};
 ghost use Rattle.tpm_output.specs.Faults.{FailsByMemoryOrWrite};
+ghost use Rattle.tpm_output.specs.InputLines.{CountsRead};
+ghost use Rattle.tpm_output.specs.Reads.{ReadsNoMore, ReadsUpTo};
 ghost use Rattle.tpm_check.specs.AllowTold.{too_long_text};
 ghost use Rattle.tpm_check.specs.AllowedBoot.{ChecksBeside, SaysBehind, SaysBeside, SaysOfList};
-ghost use Rattle.tpm_check.specs.AllowedBoot.{SaysOfRead, SaysOfSelected, on_boot};
+ghost use Rattle.tpm_check.specs.AllowedBoot.{SaysOfRead, SaysOfSelected, on_boot, on_found};
+ghost use Rattle.tpm_check.specs.CheckAttest.{Says};
+ghost use Rattle.tpm_check.specs.Extensions.{extensions_in};
+ghost use Rattle.tpm_check.specs.inner.AllowedBoot.{AreAllOf, vouched_log};
 ghost use Rattle.tpm_check.specs.inner.CheckAttest.{Adds};
+ghost use Rattle.tpm_check.specs.inner.LookingUp.{IsLookedUp};
 ghost use Rattle.tpm_check.specs.Compare.{Verdict, not_a_register_text, printed};
 
+use crate::allow_index::AllowIndex;
 use crate::allow_lines::read_allowed;
-use crate::allow_told::push_beside_list;
+use crate::allow_told::AllowTold;
 use crate::beside::Beside;
 use crate::check_json::ok_text;
 use crate::checked::tell_fault;
 use crate::compared::{MOST_BYTES, no_register_text};
+use crate::extensions::{Extension, extensions_in};
 use crate::judged::answer_to_attest;
+use crate::looked_up::{LookedUp, look_up};
 use crate::quoted_boot::{quoted_banks, selected};
 use crate::register_text::push_not_a_register;
 use crate::replayed::{ReplayedLog, replayed};
 use crate::told_secure_boot::push_log;
 use std::alloc::{AllocError, Global};
 use std::io::Write;
+use tpm_events::listed_events::MOST_READ;
 use tpm_log::Log;
 use tpm_options::CheckOptions;
 use tpm_output::answer::Answer;
 use tpm_output::fault::ToolFault;
+use tpm_output::reads::read_up_to;
 use tpm_output::status::Status;
+use tpm_pcr::Registers;
 use tpm_types::Selections;
-use tpm_vouched::{AllowList, AllowedDigest};
+use tpm_vouched::AllowedDigest;
+use tpm_wire::Source;
 
-// What is printed of a log beside these digests.
-fn answer_to_digests(
+// What is printed of a log beside a list.
+fn answer_to_found(
     alloc: Global,
-    json: bool,
-    digests: Vec<AllowedDigest>,
+    told: &AllowTold<'_, '_>,
     quoted: &Selections,
-    log: &Log<'_>,
 ) -> Result<Answer, AllocError>
-    ensures { IfOk result (λ a. SaysOfRead
-        (record { json = json; selections = quoted.now; log = log.now }) (Ok digests.items)
-        (printed a.status (string_bytes a.text))) }
+    ensures { IfOk result (λ a. Says
+        (on_found told.now.json told.now.list.now quoted.now told.now.found.now)
+        a.status (string_bytes a.text)) }
 {
-    let mut digests = digests;
-    let list = AllowList::new(digests.as_mut_slice());
-    if let [] = list.digests() {
-        return Answer::of(alloc, Status::Refused, no_register_text(json, false));
+    match told.list.digests() {
+        [] => Answer::of(alloc, Status::Refused, no_register_text(told.json, false)),
+        [_, ..] => {
+            let mut text = String::new(alloc);
+            let status = told.push(&mut text, quoted)?;
+            Ok(Answer { status, text })
+        }
     }
-    let mut text = String::new(alloc);
-    let status = push_beside_list(alloc, &mut text, json, &list, quoted, log)?;
-    Ok(Answer { status, text })
 }
 
 // That the line of this number is wrong.
@@ -73,63 +89,79 @@ fn too_long_text(json: bool) -> &'static str
     }
 }
 
-// What is printed of a log beside the bytes of a list.
-fn answer_to_list(
-    alloc: Global,
-    json: bool,
-    bytes: &[u8],
-    quoted: &Selections,
-    log: &Log<'_>,
-) -> Result<Answer, AllocError>
-    ensures { IfOk result (λ a. SaysOfList
-        (record { json = json; selections = quoted.now; log = log.now }) bytes.now
-        (printed a.status (string_bytes a.text))) }
-{
-    if bytes.len() > MOST_BYTES {
-        return Answer::of(alloc, Status::Refused, too_long_text(json));
-    }
-    match read_allowed(alloc, bytes)? {
-        Ok(digests) => answer_to_digests(alloc, json, digests, quoted, log),
-        Err(number) => wrong_line(alloc, json, number),
-    }
+// A log beside which a quote is the one asked for, what the quote selects, and what is asked for.
+#[derive(Clone, Copy)]
+struct VouchedLog<'a, 'b, 'c> {
+    options: &'c CheckOptions<'a>,
+    quoted: &'c Selections,
+    log: &'c Log<'b>,
 }
 
-// Adds whether Secure Boot was on, where that is asked for, in the banks whose register 7 a quote selects.
-fn push_boot(
-    alloc: Global,
-    text: &mut String,
-    options: &CheckOptions<'_>,
-    asked: bool,
-    quoted: &Selections,
-    log: &Log<'_>,
-) -> Result<Status, AllocError>
-    ensures { IfOk result (λ status. Adds (on_boot asked options.now quoted.now log.now) status
-        (string_bytes text.old) (string_bytes text.new)) }
-{
-    if !asked {
-        return Ok(Status::Done);
+impl<'a, 'b, 'c> VouchedLog<'a, 'b, 'c> {
+    // What is printed of it beside these digests.
+    fn answer_to_digests(
+        &self,
+        alloc: Global,
+        digests: &[AllowedDigest],
+    ) -> Result<Answer, AllocError>
+        ensures { IfOk result (λ a. SaysOfRead (vouched_log self.now) (Ok digests.now)
+            (printed a.status (string_bytes a.text))) }
+    {
+        let list = &AllowIndex::new(alloc, digests)?;
+        let found = extensions_in(alloc, Some(list), self.log)?;
+        let told = AllowTold {
+            list,
+            found: found.as_slice(),
+            json: self.options.json,
+        };
+        answer_to_found(alloc, &told, self.quoted)
     }
-    let banks = quoted_banks(quoted.as_slice());
-    push_log(alloc, text, options, log, banks.as_slice())
-}
 
-// Adds that, and what is said beside a list.
-fn push_listed(
-    alloc: Global,
-    text: &mut String,
-    options: &CheckOptions<'_>,
-    allow: &[u8],
-    quoted: &Selections,
-    log: &Log<'_>,
-) -> Result<Status, AllocError>
-    ensures { IfOk result (λ status. (second : Verdict)
-        × SaysOfSelected options.now (Some allow.now) quoted.now log.now second
-        × Adds second status (string_bytes text.old) (string_bytes text.new)) }
-{
-    let boot = push_boot(alloc, text, options, options.secure_boot, quoted, log)?;
-    let last = answer_to_list(alloc, options.json, allow, quoted, log)?;
-    text.push_str(last.text.as_str())?;
-    Ok(boot.both(last.status))
+    // What is printed of it beside the bytes of a list.
+    fn answer_to_list(&self, alloc: Global, bytes: &[u8]) -> Result<Answer, AllocError>
+        ensures { IfOk result (λ a. SaysOfList (vouched_log self.now) bytes.now
+            (printed a.status (string_bytes a.text))) }
+    {
+        let json = self.options.json;
+        if bytes.len() > MOST_BYTES {
+            return Answer::of(alloc, Status::Refused, too_long_text(json));
+        }
+        match read_allowed(alloc, bytes)? {
+            Ok(digests) => self.answer_to_digests(alloc, digests.as_slice()),
+            Err(number) => wrong_line(alloc, json, number),
+        }
+    }
+
+    // Adds whether Secure Boot was on, where that is asked for, in the banks whose register 7 is selected.
+    fn push_boot(&self, alloc: Global, text: &mut String, asked: bool) -> Result<Status, AllocError>
+        ensures { IfOk result (λ status. Adds
+            (on_boot asked self.now.options.now self.now.quoted.now self.now.log.now) status
+            (string_bytes text.old) (string_bytes text.new)) }
+    {
+        if !asked {
+            return Ok(Status::Done);
+        }
+        let banks = quoted_banks(self.quoted.as_slice());
+        push_log(alloc, text, self.options, self.log, banks.as_slice())
+    }
+
+    // Adds that, and what is said beside a list.
+    fn push_listed(
+        &self,
+        alloc: Global,
+        text: &mut String,
+        allow: &[u8],
+    ) -> Result<Status, AllocError>
+        ensures { IfOk result (λ status. (second : Verdict)
+            × SaysOfSelected self.now.options.now (Some allow.now) self.now.quoted.now
+            self.now.log.now second
+            × Adds second status (string_bytes text.old) (string_bytes text.new)) }
+    {
+        let boot = self.push_boot(alloc, text, self.options.secure_boot)?;
+        let last = self.answer_to_list(alloc, allow)?;
+        text.push_str(last.text.as_str())?;
+        Ok(boot.both(last.status))
+    }
 }
 
 // Adds what is said behind a quote that is the one asked for.
@@ -147,10 +179,15 @@ fn push_behind(
         log.now second
         × Adds second status (string_bytes text.old) (string_bytes text.new)) }
 {
-    let quoted = selected(attest);
+    let quoted = &selected(attest);
+    let vouched = VouchedLog {
+        options,
+        quoted,
+        log,
+    };
     match allow {
-        Some(allow) => push_listed(alloc, text, options, allow, &quoted, log),
-        None => push_boot(alloc, text, options, true, &quoted, log),
+        Some(allow) => vouched.push_listed(alloc, text, allow),
+        None => vouched.push_boot(alloc, text, true),
     }
 }
 
@@ -201,5 +238,115 @@ pub(crate) fn print_beside<W: Write>(
     match replayed(bytes) {
         Ok(found) => answer_beside(alloc, options, attest, allow, &found)?.print(out),
         Err(fault) => tell_fault(alloc, options.json, &fault, out),
+    }
+}
+
+// The digests of a list, where it isn't too long and no line is wrong.
+fn digests_of(alloc: Global, bytes: &[u8]) -> Result<Option<Vec<AllowedDigest>>, AllocError>
+    ensures { IfOk result (λ read. IfSome read (λ digests. AreAllOf bytes.now digests.items)) }
+{
+    if bytes.len() > MOST_BYTES {
+        return Ok(None);
+    }
+    match read_allowed(alloc, bytes)? {
+        Ok(digests) => Ok(Some(digests)),
+        Err(_) => Ok(None),
+    }
+}
+
+// What is printed of a log beside a quote and these digests, by the registers that it gives and those of its digests
+// that aren't among them.
+fn answer_to_quoted(
+    alloc: Global,
+    options: &CheckOptions<'_>,
+    attest: &[u8],
+    list: &AllowIndex<'_>,
+    registers: &Registers,
+    found: &[Extension],
+) -> Result<Answer, AllocError>
+    requires { options.now.secure_boot ≡ false }
+    ensures { IfOk result (λ a. (allow : List ℕ) (l : ParsedLog)
+        → AreAllOf allow list.now
+        → found.now ≡ extensions_in (Some list.now) l.size (map shown l.records)
+        → SaysBeside options.now (record { attest = attest.now; allow = Some allow })
+        registers.now l (printed a.status (string_bytes a.text))) }
+{
+    let json = options.json;
+    let first = answer_to_attest(alloc, &Beside { registers, json }, options, attest)?;
+    let mut text = first.text;
+    match first.status {
+        Status::Refused => {
+            text.push_str(ok_text(json, Status::Refused))?;
+            Ok(Answer::refused(text))
+        }
+        Status::Done => {
+            let told = AllowTold { list, found, json };
+            let last = answer_to_found(alloc, &told, &selected(attest))?;
+            text.push_str(last.text.as_str())?;
+            text.push_str(ok_text(json, last.status))?;
+            let status = last.status;
+            Ok(Answer { status, text })
+        }
+    }
+}
+
+// Prints that, or the fault of the log.
+fn print_found<W: Write>(
+    alloc: Global,
+    options: &CheckOptions<'_>,
+    attest: &[u8],
+    list: &AllowIndex<'_>,
+    found: &LookedUp,
+    out: &mut W,
+) -> Result<Status, ToolFault>
+    requires { options.now.secure_boot ≡ false }
+    ensures ok { IfOk result (λ status. (allow bytes : List ℕ)
+        → AreAllOf allow list.now
+        → IsLookedUp list.now found.now bytes
+        → (text : List ℕ)
+        × ChecksBeside options.now
+        (record { attest = attest.now; allow = Some allow }) bytes status text
+        × Appends (W.contents out.old) (W.contents out.new) text) }
+    ensures err { FailsByMemoryOrWrite result }
+{
+    match found.registers() {
+        Ok(registers) => {
+            let unknown = found.found.as_slice();
+            answer_to_quoted(alloc, options, attest, list, registers, unknown)?.print(out)
+        }
+        Err(fault) => tell_fault(alloc, options.json, &fault, out),
+    }
+}
+
+/// The same of the log that a source gives, which isn't held, unless the list has a fault.
+pub(crate) fn print_looked_up<L: Source, W: Write>(
+    alloc: Global,
+    log: &mut L,
+    options: &CheckOptions<'_>,
+    attest: &[u8],
+    allow: &[u8],
+    out: &mut W,
+) -> Result<Status, ToolFault>
+    requires { options.now.secure_boot ≡ false }
+    ensures failures { CountsRead (L.failed log.old) (L.failed log.new) result }
+    ensures stop { IsErrOf result Read → IsWhereItFailed (L.stopped log.new) }
+    ensures most { ReadsNoMore most_read (L.coming log.old) (L.coming log.new) }
+    ensures ok { IfOk result (λ status. (bytes : List ℕ) × (text : List ℕ)
+        × ReadsUpTo most_read (L.coming log.old) (L.coming log.new) bytes
+        × ChecksBeside options.now
+        (record { attest = attest.now; allow = Some allow.now }) bytes status text
+        × Appends (W.contents out.old) (W.contents out.new) text) }
+    ensures short { IsErrOf result InputTooLong → ⊥ }
+{
+    match digests_of(alloc, allow)? {
+        Some(digests) => {
+            let list = AllowIndex::new(alloc, digests.as_slice())?;
+            let found = look_up(alloc, log, &list)?;
+            print_found(alloc, options, attest, &list, &found, out)
+        }
+        None => {
+            let bytes = read_up_to(alloc, log, MOST_READ)?;
+            print_beside(alloc, options, attest, Some(allow), bytes.as_slice(), out)
+        }
     }
 }

@@ -8,7 +8,6 @@ ghost use Rattle.tpm_check.specs.Compare.{status_if};
 
 use std::alloc::{AllocError, Global};
 use tpm_output::answer::Answer;
-use tpm_output::members::push_text_member;
 use tpm_output::status::Status;
 use tpm_output::text::{Pushed, push_refusal};
 use tpm_wire::Refusal;
@@ -27,7 +26,7 @@ fn push_hint_member(text: &mut String, hint: Option<&str>) -> Pushed
         ≡ string_bytes text.old ++ hint_member (option_map (λ h. h.now) hint.entry)) }
 {
     match hint {
-        Some(hint) => push_text_member(text, "hint", hint),
+        Some(hint) => write!(text, ",\"hint\":\"{hint}\""),
         None => Ok(()),
     }
 }
@@ -39,22 +38,6 @@ fn push_hint_line(text: &mut String, hint: Option<&str>) -> Pushed
     match hint {
         Some(hint) => writeln!(text, "{hint}"),
         None => Ok(()),
-    }
-}
-
-// Adds a refusal, and what the bytes are in place of what they don't spell, where that is known.
-fn push_refusal_told(text: &mut String, json: bool, refusal: &Refusal, hint: Option<&str>) -> Pushed
-    ensures { OnOk result (string_bytes text.new
-        ≡ string_bytes text.old
-        ++ refusal_text json refusal.now (option_map (λ h. h.now) hint.entry)) }
-{
-    if json {
-        push_refusal_members(text, refusal)?;
-        push_hint_member(text, hint)?;
-        text.push_str("}\n")
-    } else {
-        push_refusal(text, refusal)?;
-        push_hint_line(text, hint)
     }
 }
 
@@ -71,7 +54,14 @@ pub(crate) fn refusal_answer(
         ≡ refusal_text json refusal.now (option_map (λ h. h.now) hint.entry))) }
 {
     let mut text = String::new(alloc);
-    push_refusal_told(&mut text, json, refusal, hint)?;
+    if json {
+        push_refusal_members(&mut text, refusal)?;
+        push_hint_member(&mut text, hint)?;
+        text.push_str("}\n")?;
+    } else {
+        push_refusal(&mut text, refusal)?;
+        push_hint_line(&mut text, hint)?;
+    }
     Ok(Answer::refused(text))
 }
 

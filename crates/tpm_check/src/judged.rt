@@ -1,10 +1,10 @@
 //! A quote as it was signed, in the subcommand `check`.
 
-ghost use Rattle.std.specs.Prelude.{◌≡◌, ◌++◌, IfOk, OnOk, option_map, string_bytes};
+ghost use Rattle.std.specs.Prelude.{◌≡◌, IfOk, OnOk, option_map, string_bytes};
 ghost use Rattle.std.specs.Str.{bytes_eq};
 ghost use Rattle.tpm_output.specs.Telling.{told as told_by};
 ghost use Rattle.tpm_check.specs.CheckAttest.{ChecksAttest, given, hint, is_asked_for, is_done};
-ghost use Rattle.tpm_check.specs.CheckAttest.{is_signature, is_sized, judged, lacks_line, marks_of_judged};
+ghost use Rattle.tpm_check.specs.CheckAttest.{is_signature, is_sized, judged, marks_of_judged};
 ghost use Rattle.tpm_check.specs.CheckAttest.{marks_of_lacks, marks_of_selected, marks_of_signer, selected};
 ghost use Rattle.tpm_check.specs.Compare.{printed};
 ghost use Rattle.tpm_check.specs.inner.Told.{told};
@@ -20,7 +20,6 @@ use tpm_output::answer::Answer;
 use tpm_output::mark::{Mark, Shape, Value};
 use tpm_output::tell::Tell;
 use tpm_output::teller::{Teller, Told, tell_all, tell_word};
-use tpm_output::text::Pushed;
 use tpm_quote::{NotSelected, decode_attest, first_not_selected, selects_none};
 use tpm_types::{Attest, Selections};
 
@@ -120,33 +119,43 @@ fn tell_signer<T: Teller>(out: &mut T, same: Option<bool>) -> Told
     }
 }
 
-// Tells a register that is lacking.
-fn tell_lacks<T: Teller>(out: &mut T, json: bool, bank: &str, register: u32) -> Told
-    ensures { OnOk result (T.state out.new
-        ≡ told_by T.tells (T.state out.old) (marks_of_lacks json bank.now register)) }
-{
-    if json {
-        tell_all(
-            out,
-            &[
-                Mark::Says(Some("selection"), Value::Word("lacks")),
-                Mark::Opens(Some("lacks"), Shape::Object),
-                Mark::Says(Some("bank"), Value::Word(bank)),
-                Mark::Says(Some("register"), Value::Number(u64::from(register))),
-                Mark::Closes(Shape::Object),
-            ],
-        )
-    } else {
-        tell_all(
-            out,
-            &[
-                Mark::Opens(Some("selection"), Shape::List),
-                Mark::Says(None, Value::Word("lacks")),
-                Mark::Says(None, Value::Word(bank)),
-                Mark::Says(None, Value::Number(u64::from(register))),
-                Mark::Closes(Shape::List),
-            ],
-        )
+/// A register that is lacking.
+#[derive(Clone, Copy)]
+pub(crate) struct Lacks {
+    pub(crate) missing: NotSelected,
+    /// Whether it is an object of its own. Else it is further words.
+    pub(crate) json: bool,
+}
+
+impl Tell for Lacks {
+    ghost marks = { λ l. marks_of_lacks l.json l.missing };
+
+    fn tell<T: Teller>(&self, out: &mut T) -> Told {
+        let bank = Value::Word(self.missing.bank.name());
+        let register = Value::Number(u64::from(self.missing.register.number()));
+        if self.json {
+            tell_all(
+                out,
+                &[
+                    Mark::Says(Some("selection"), Value::Word("lacks")),
+                    Mark::Opens(Some("lacks"), Shape::Object),
+                    Mark::Says(Some("bank"), bank),
+                    Mark::Says(Some("register"), register),
+                    Mark::Closes(Shape::Object),
+                ],
+            )
+        } else {
+            tell_all(
+                out,
+                &[
+                    Mark::Opens(Some("selection"), Shape::List),
+                    Mark::Says(None, Value::Word("lacks")),
+                    Mark::Says(None, bank),
+                    Mark::Says(None, register),
+                    Mark::Closes(Shape::List),
+                ],
+            )
+        }
     }
 }
 
@@ -155,7 +164,7 @@ fn tell_selected<T: Teller>(out: &mut T, json: bool, selected: Selected) -> Told
         ≡ told_by T.tells (T.state out.old) (marks_of_selected json selected)) }
 {
     match selected {
-        Selected::Lacks(r) => tell_lacks(out, json, r.bank.name(), r.register.number()),
+        Selected::Lacks(missing) => Lacks { missing, json }.tell(out),
         Selected::Covers => tell_word(out, "selection", "covers"),
         Selected::Empty => tell_word(out, "selection", "empty"),
         Selected::NotCompared => tell_word(out, "selection", "not compared"),
@@ -183,16 +192,6 @@ impl<'a, 'b> Tell for ToldJudged<'a, 'b> {
         tell_selected(out, self.json, judged.selection)?;
         tell_quote(out, judged.quote)
     }
-}
-
-/// Adds the line of a register that is lacking.
-#[tactic(auto, unfolding(crate::specs::CheckAttest::lacks_line))]
-pub(crate) fn push_lacks(text: &mut String, missing: NotSelected) -> Pushed
-    ensures { OnOk result (string_bytes text.new ≡ string_bytes text.old ++ lacks_line missing) }
-{
-    let bank = missing.bank.name();
-    let register = missing.register.number();
-    writeln!(text, "selection lacks {bank} {register}")
 }
 
 // ---- what is no quote

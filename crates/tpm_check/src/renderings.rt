@@ -1,13 +1,16 @@
 //! What is told of a thing, in lines or as an object of JSON.
 
-ghost use Rattle.std.specs.Prelude.{◌≡◌, ◌++◌, ℕ, List, IfOk, OnOk, string_bytes};
-ghost use Rattle.tpm_check.specs.CheckJson.{as_line, as_object, rendered, told_as};
+ghost use Rattle.std.specs.Prelude.{◌≡◌, ◌++◌, ℕ, List, IfOk, OnOk, map, string_bytes};
+ghost use Rattle.tpm_output.specs.Fields.{as_line};
+ghost use Rattle.tpm_output.specs.Marks.{as_mark};
+ghost use Rattle.tpm_check.specs.CheckJson.{rendered, told_as};
 
 use std::alloc::{AllocError, Global};
 use tpm_output::answer::Answer;
-use tpm_output::fields::Place;
+use tpm_output::mark::Mark;
 use tpm_output::status::Status;
-use tpm_output::tell::{Tell, push_fields, push_json, push_lines};
+use tpm_output::tell::{Tell, push_line, push_lines, push_object};
+use tpm_output::teller::{Teller, Told, tell_all};
 use tpm_output::text::Pushed;
 
 /// A thing that is told in lines by other words than as an object.
@@ -17,24 +20,6 @@ pub(crate) trait InLines: Tell {
     /// Adds its lines.
     fn push_lines(&self, text: &mut String) -> Pushed
         ensures { OnOk result (string_bytes text.new ≡ string_bytes text.old ++ lines self.now) };
-}
-
-/// Adds a thing as a line of fields.
-pub(crate) fn push_line<X: Tell>(text: &mut String, thing: &X) -> Pushed
-    ensures { OnOk result (string_bytes text.new
-        ≡ string_bytes text.old ++ as_line (X.marks thing.now)) }
-{
-    push_fields(text, Place::First, thing)?;
-    text.push_str("\n")
-}
-
-fn push_object<X: Tell>(text: &mut String, thing: &X) -> Pushed
-    ensures { OnOk result (string_bytes text.new
-        ≡ string_bytes text.old ++ as_object (X.marks thing.now)) }
-{
-    text.push_str("{")?;
-    push_json(text, false, thing)?;
-    text.push_str("}\n")
 }
 
 /// Adds a thing in its lines or as an object of JSON.
@@ -49,6 +34,47 @@ pub(crate) fn push_told<X: InLines>(text: &mut String, json: bool, thing: &X) ->
     }
 }
 
+// A thing that is told by these marks.
+#[derive(Clone, Copy)]
+struct Marks<'a, 'b>(&'b [Mark<'a>]);
+
+impl<'a, 'b> Tell for Marks<'a, 'b> {
+    ghost marks = { λ m. map as_mark m.0.now };
+
+    fn tell<T: Teller>(&self, out: &mut T) -> Told {
+        tell_all(out, self.0)
+    }
+}
+
+/// Adds a line of these words or an object of these members.
+pub(crate) fn push_either(
+    text: &mut String,
+    json: bool,
+    words: &[Mark<'_>],
+    members: &[Mark<'_>],
+) -> Pushed
+    ensures { OnOk result (string_bytes text.new ≡ string_bytes text.old
+        ++ told_as json (as_line (map as_mark words.now)) (map as_mark members.now)) }
+{
+    if json {
+        push_object(text, &Marks(members))
+    } else {
+        push_line(text, &Marks(words))
+    }
+}
+
+/// Adds a thing in lines or as an object of JSON.
+pub(crate) fn push_rendered<X: Tell>(text: &mut String, json: bool, thing: &X) -> Pushed
+    ensures { OnOk result (string_bytes text.new
+        ≡ string_bytes text.old ++ rendered json (X.marks thing.now)) }
+{
+    if json {
+        push_object(text, thing)
+    } else {
+        push_lines(text, thing)
+    }
+}
+
 /// A thing in lines or as an object of JSON, with this status. AllocError where a request for memory is refused.
 pub(crate) fn rendered<X: Tell>(
     alloc: Global,
@@ -60,10 +86,6 @@ pub(crate) fn rendered<X: Tell>(
         × (string_bytes a.text ≡ rendered json (X.marks thing.now))) }
 {
     let mut text = String::new(alloc);
-    if json {
-        push_object(&mut text, thing)?;
-    } else {
-        push_lines(&mut text, thing)?;
-    }
+    push_rendered(&mut text, json, thing)?;
     Ok(Answer { status, text })
 }

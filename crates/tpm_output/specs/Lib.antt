@@ -12,7 +12,6 @@ pub mod Telling
 pub mod Fields
 pub mod Lines
 pub mod Json
-pub mod Members
 pub mod Reading
 pub mod Reads
 pub mod InputLines

@@ -1,6 +1,5 @@
 -- The program's lines (this profile).
-use Rattle.std.specs.Prelude.{ℕ, ◌+◌, ◌==◌, if◌then◌else◌, List, [], ◌∷◌, ◌++◌}
-use Rattle.std.specs.Prelude.{codes, Option, Some, None, Result, Ok, Err}
+use Rattle.std.specs.Prelude.{ℕ, ◌+◌, List, [], ◌∷◌, ◌++◌, codes, Option, Some, None, Result, Ok, Err}
 use Rattle.std.specs.Fmt.{decimal}
 use Rattle.hex.specs.Hex.{decode_of, encode_lower}
 use Rattle.hex.specs.declared.error.FromHexError.{FromHexError}
@@ -18,10 +17,6 @@ abbrev pub lines_from : {A : Type 0} → (ℕ → A → List ℕ) → ℕ → Li
 lines_from one i [] = []
 lines_from one i (x ∷ xs) = one i x ++ lines_from one (i + 1) xs
 
--- before an entry of a list, counted from 1: a comma, where it isn't the first
-abbrev pub comma : ℕ → List ℕ
-comma i = if i == 1 then [] else codes ","
-
 abbrev pub value_of : Result (List ℕ) FromHexError → Option (List ℕ)
 value_of (Ok bytes) = Some bytes
 value_of (Err fault) = None
@@ -37,9 +32,6 @@ bytes_text (byte ∷ bytes) = encode_lower (byte ∷ bytes)
 
 unfoldable pub bytes_line : List ℕ → List ℕ
 bytes_line bytes = line (bytes_text bytes ∷ [])
-
-unfoldable pub parameters_line : List ℕ → List ℕ
-parameters_line bytes = line (codes "parameters" ∷ bytes_text bytes ∷ [])
 
 -- ---- refusals
 

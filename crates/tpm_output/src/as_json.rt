@@ -77,7 +77,7 @@ fn put_label<S: Sink>(sink: &mut S, name: Option<&str>) -> Told
     }
 }
 
-pub(crate) fn put_units<S: Sink>(sink: &mut S, name: Option<&str>, value: &Value<'_>) -> Told
+fn put_units<S: Sink>(sink: &mut S, name: Option<&str>, value: &Value<'_>) -> Told
     ensures { OnOk result (S.written sink.new ≡ S.written sink.old
         ++ units_member (option_map (λ n. n.now) name.entry) (as_value value.now)) }
 {

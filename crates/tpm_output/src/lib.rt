@@ -14,7 +14,6 @@ pub mod input_lines;
 pub mod lent;
 pub mod lines;
 pub mod mark;
-pub mod members;
 pub mod named;
 pub mod puts;
 pub mod reads;

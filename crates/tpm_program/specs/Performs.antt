@@ -25,7 +25,7 @@ use Rattle.tpm_check.specs.ExtendsTold.{TellsExtends}
 use Rattle.tpm_check.specs.Listed.{TellsListed}
 use Rattle.tpm_check.specs.QuotedBoot.{ChecksBoot}
 use Rattle.tpm_check.specs.VouchedEvents.{ListsBeside}
-use Rattle.tpm_output.specs.Reads.{ReadsUpTo, most_attest}
+use Rattle.tpm_output.specs.Reads.{ReadsUpTo}
 use Rattle.tpm_script.specs.Script.{ReadsScript, script, script_text, status_for}
 use Rattle.tpm_args.specs.declared.task.Task.TheVariants.{Show, ShowCapture, ShowPackets, ShowNv, Build, Run}
 use Rattle.tpm_args.specs.declared.task.Task.TheVariants.{Explain, ExplainName, Check, CheckListed}
@@ -124,6 +124,10 @@ abbrev pub ExplainsName : (name : List ℕ) → Status → List ℕ → Type 0
 ExplainsName name status text = ExplainsNamed (code_of_name name) name status text
 
 -- ---- each task
+
+-- more than any quote has
+abbrev pub most_attest : ℕ
+most_attest = 4096
 
 -- For what is read this is the status and what is printed.
 abbrev pub Performs : Offered → Task → Status → List ℕ → Type 0

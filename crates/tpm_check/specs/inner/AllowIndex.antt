@@ -1,24 +1,56 @@
--- The set of allowed digests.
-use Rattle.std.specs.Prelude.{◌≡◌, ◌&&◌, ℕ, Bool, List, nat_eq}
+-- Allowed digests in the chains of their buckets.
+use Rattle.std.specs.Prelude.{◌≡◌, ◌≤◌, ◌<◌, ◌+◌, ◌*◌, ◌/◌, ◌&&◌, ◌==◌, ℕ, Bool, List, [], ◌∷◌}
+use Rattle.std.specs.Prelude.{get_or, length, take, nat_eq}
 use Rattle.std.specs.Cmp.Lexicographic.{pointwise}
-use Rattle.std.specs.HashSet.{HashSet, contains}
 use Rattle.std.specs.List.{list_any}
+use Rattle.tpm_types.specs.declared.alg.Alg.{Alg}
 use Rattle.tpm_types.specs.Alg.{alg_number}
 use Rattle.tpm_vouched.specs.declared.allowed.AllowedDigest.{AllowedDigest}
-use Rattle.tpm_check.specs.declared.allow_index.DigestBytes.{DigestBytes}
+use Rattle.tpm_vouched.specs.Allowed.{is_for, names}
 
--- the number of a hash, a register, and a digest
-abbrev pub Key : Type 0
-Key = ℕ × ℕ × DigestBytes
+-- by what a digest begins with
+abbrev pub bucket : List ℕ → ℕ
+bucket [] = 0
+bucket (first ∷ []) = 0
+bucket (first ∷ second ∷ rest) = first * 64 + second / 4
 
-abbrev pub is_key : Key → Key → Bool
-is_key x y = (nat_eq x.0 y.0 && nat_eq x.1 y.1) && pointwise nat_eq x.2.bytes.now y.2.bytes.now
+abbrev pub bucket_of : AllowedDigest → ℕ
+bucket_of a = bucket a.digest.1
 
--- It is the digest of this key.
-abbrev pub has_key : Key → AllowedDigest → Bool
-has_key k a =
-    (nat_eq (alg_number a.digest.0) k.0 && nat_eq a.register k.1) && pointwise nat_eq a.digest.1 k.2.bytes.now
+abbrev pub is_place : Alg → (register : ℕ) → Alg × ℕ → Bool
+is_place bank register place = (alg_number place.0 == alg_number bank) && (place.1 == register)
 
--- A key is in the set where a digest of it is on the list.
-abbrev pub FindsAll : {S : Type 0} → HashSet Key S → List AllowedDigest → Type 0
-FindsAll keys list = (k : Key) → contains is_key keys k ≡ list_any (has_key k) list
+-- It is this one, for this register of the bank.
+abbrev pub is_this : Alg → (register : ℕ) → List ℕ → AllowedDigest → Bool
+is_this bank register digest a = is_for bank register a && pointwise nat_eq a.digest.1 digest
+
+-- Of the first digests, so many of them, those in this bucket are among the first ones up to a place, of which the last
+-- is in it.
+pub record EndsAt (digests : List AllowedDigest) (b count place : ℕ) : Type 0 where
+  pub within : place ≤ count
+  pub finds : (bank : Alg) (register : ℕ) (digest : List ℕ) → bucket digest ≡ b
+      → list_any (is_this bank register digest) (take count digests)
+      ≡ list_any (is_this bank register digest) (take place digests)
+  pub last : (n : ℕ) (a : AllowedDigest) → place ≡ n + 1 → a ≡ get_or digests n a → bucket_of a ≡ b
+
+-- That is told of each bucket.
+abbrev pub AreLast : List AllowedDigest → (count : ℕ) → (last : List ℕ) → Type 0
+AreLast digests count last = (b : ℕ) → b < 16384 → EndsAt digests b count (get_or last b 0)
+
+-- That is told of those before each digest, in its bucket.
+abbrev pub AreBefore : List AllowedDigest → (count : ℕ) → (before : List ℕ) → Type 0
+AreBefore digests count before =
+    (n : ℕ) (a : AllowedDigest) → n < count → a ≡ get_or digests n a
+    → EndsAt digests (bucket_of a) n (get_or before n 0)
+
+-- the chains of the first digests, so many of them
+pub record AreChains (digests : List AllowedDigest) (count : ℕ) (last before : List ℕ) : Type 0 where
+  pub buckets : length last ≡ 16384
+  pub long : length before ≡ count
+  pub ends : AreLast digests count last
+  pub each : AreBefore digests count before
+
+-- Each register that has a digest is a place.
+abbrev pub ArePlaces : List AllowedDigest → List (Alg × ℕ) → Type 0
+ArePlaces digests places =
+    (bank : Alg) (register : ℕ) → list_any (is_place bank register) places ≡ names digests bank register

@@ -1,8 +1,7 @@
 use Rattle.std.proofs.Common.{rules, ℕ, List, Option, option_map, subst}
 use Rattle.tpm_check.specs.Asked.{Asked}
 use Rattle.tpm_events.specs.ListEvents.{most_read}
-use Rattle.tpm_output.specs.Reads.{most_attest}
-use Rattle.tpm_program.specs.Performs.{OfFirstIf, PrintsAsked}
+use Rattle.tpm_program.specs.Performs.{OfFirstIf, PrintsAsked, most_attest}
 use Rattle.tpm_program.proofs.Checks.{list_not_read_if, of_first_if, of_if}
 use Rattle.tpm_program.proofs.logs.check.Goals as goal
 

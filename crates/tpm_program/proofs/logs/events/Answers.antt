@@ -1,9 +1,8 @@
 use Rattle.std.proofs.Common.{ℕ, List, None, Option, option_map, subst}
-use Rattle.tpm_output.specs.Reads.{most_attest}
 use Rattle.tpm_events.specs.ListEvents.{most_read}
 use Rattle.tpm_check.specs.Asked.{Asked}
 use Rattle.tpm_check.specs.VouchedEvents.{ListsBeside}
-use Rattle.tpm_program.specs.Performs.{OfFirst}
+use Rattle.tpm_program.specs.Performs.{OfFirst, most_attest}
 use Rattle.tpm_program.proofs.Checks.{of_first_if}
 use Rattle.tpm_program.proofs.logs.events.Goals as goal
 
