@@ -1,6 +1,8 @@
 //! The lines of a list of allowed digests.
 
-ghost use Rattle.std.specs.Prelude.{◌≡◌, ◌<◌, ◌≤◌, ◌∷◌, IfOk, IfSome, length, option_map, position};
+ghost use Rattle.std.specs.Prelude.{◌≡◌, ◌<◌, ◌≤◌, ◌∷◌, true, false, IfOk, IfSome, MatchResult, length};
+ghost use Rattle.std.specs.Prelude.{option_map, position, unwrap_or};
+ghost use Rattle.hex.specs.Hex.{decode_sized, hex_digit_value};
 ghost use Rattle.memchr.specs.Find.{is_byte};
 ghost use Rattle.std.specs.List.{before_first, slice_split};
 ghost use Rattle.tpm_output.specs.Text.{bytes_in};
@@ -27,6 +29,39 @@ pub(crate) enum AllowLine {
     Wrong,
 }
 
+// The value of a hexadecimal digit, and 16 of any other byte.
+fn digit_value(digit: u8) -> u8
+    ensures { result ≡ unwrap_or (hex_digit_value digit) 16 }
+{
+    match digit {
+        b'0'..=b'9' => digit - b'0',
+        b'a'..=b'f' => digit - b'a' + 10,
+        b'A'..=b'F' => digit - b'A' + 10,
+        _ => 16,
+    }
+}
+
+// Whether these are the digits of so many bytes, which are then filled. Each digit is looked at, without a branch.
+fn decode(digits: &[u8], bytes: &mut [u8]) -> bool
+    ensures { MatchResult (decode_sized digits.now (length bytes.old))
+        (λ spelled. (result ≡ true) × (bytes.new ≡ spelled)) (λ _. result ≡ false) }
+{
+    if digits.len() % 2 != 0 {
+        return false;
+    }
+    if digits.len() / 2 != bytes.len() {
+        return false;
+    }
+    let mut most = 0;
+    for i in 0..bytes.len() {
+        let high = digit_value(digits[2 * i]);
+        let low = digit_value(digits[2 * i + 1]);
+        bytes[i] = high % 16 * 16 + low % 16;
+        most = most.max(high).max(low);
+    }
+    most < 16
+}
+
 // What hexadecimal digits allow, where they spell a digest of the bank.
 #[tactic(auto, using(crate::proofs::AllowReading::spelled, crate::proofs::AllowReading::not_spelled))]
 fn read_digest(bank: Alg, register: PcrIndex, digits: &[u8]) -> AllowLine
@@ -34,7 +69,7 @@ fn read_digest(bank: Alg, register: PcrIndex, digits: &[u8]) -> AllowLine
 {
     let mut bytes = [0; DIGEST_BYTES];
     let bytes = &mut bytes[..bank.digest_len()];
-    if hex::decode_to_slice(digits, bytes).is_err() {
+    if !decode(digits, bytes) {
         return AllowLine::Wrong;
     }
     match HashedDigest::new(bank, bytes) {
