@@ -767,6 +767,11 @@ set_and_kept() {
     printf '%s\n' 00000000 00000003 | diff - "$room/answers" && [ "$(xxd -p "$room/state.set" | tr -d '\n')" = $blob ]
 }
 
+# first_answer: the emulator at the socket answers its first message.
+first_answer() {
+    printf '00000001\n' | timeout 20 "$room/client" channel "$room/channel" | grep -q -x 0000000000003faf
+}
+
 # one_channel: a second emulator does not take the socket of another; one that was left by a killed process is taken
 # over.
 one_channel() {
@@ -777,8 +782,7 @@ one_channel() {
     kill -KILL "$server"
     wait "$server" 2>/dev/null
     [ -S "$room/channel" ] || return 1
-    at_channel emulator && sleep 0.3 &&
-        printf '00000001\n' | timeout 20 "$room/client" channel "$room/channel" | grep -q -x 0000000000003faf && end
+    at_channel emulator && comes first_answer && end
 }
 
 # has_open N: the server has so many open descriptors.
@@ -870,6 +874,7 @@ at_its_address() {
     end || return 1
     for try in 1 2 3 4 5 6 7 8; do
         port=$((port + 8))
+        rm -f "$room/err"
         "$room/emulator" --swtpm "$port" --mssim $((port + 2)) --listen 127.0.0.2 2>"$room/err" &
         server=$!
         comes [ -s "$room/err" ]

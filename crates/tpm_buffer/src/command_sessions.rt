@@ -9,12 +9,12 @@ ghost use Rattle.tpm_buffer.specs.Commands.{sessions, authorization_size, author
 ghost use Rattle.tpm_buffer.specs.inner.CommandAreas.{LeavesAuthorization};
 
 use crate::command_header::SESSIONS;
-use crate::response_sessions::{self, ReplyRef, copy_part};
+use crate::response_sessions::{self, ReplyRef};
 use arrayvec::ArrayVec;
 use std::marker::Model;
 use tpm_types::{Auth, AuthSession, SessionAttrs};
 use tpm_wire::response_code::{AUTHSIZE, of_session};
-use tpm_wire::{Cursor, Outer, Refusal, Wire};
+use tpm_wire::{Cursor, Outer, Refusal, Wire, read_rest};
 
 /// A session of a command, lent from its bytes: TPMS_AUTH_COMMAND (Part 2, 10.13.2).
 #[derive(Drop)]
@@ -55,16 +55,6 @@ impl<'a> AuthRef<'a> {
             session: self.session,
             shared: self.shared.again(),
         }
-    }
-
-    // Makes the other one this session.
-    fn copy_to(&self, other: &mut Auth)
-        ensures { other.new ≡ self.now }
-    {
-        other.session = self.session;
-        copy_part(&mut other.nonce, self.nonce());
-        other.attrs = self.attrs();
-        copy_part(&mut other.hmac, self.hmac());
     }
 
     /// The session, or the password.
@@ -207,30 +197,8 @@ pub fn take_authorization<'a>(
     Ok(auths)
 }
 
-// Adds a copy of the session. It is out of line, where it is made in its place; in line it is made elsewhere and
-// copied.
-#[inline(never)]
-fn push_copy(auths: &mut ArrayVec<Auth, 3>, session: &AuthRef<'_>)
-    requires { length auths.old.items < 3 }
-    ensures { auths.new.items ≡ auths.old.items ++ session.now ∷ [] }
-{
-    let last = auths.len();
-    auths.push(Auth::default());
-    session.copy_to(&mut auths.as_mut_slice()[last]);
-}
-
-// Puts copies of these sessions in the place of others.
-fn copy_all(sessions: &[AuthRef<'_>], auths: &mut ArrayVec<Auth, 3>)
-    requires { length sessions.now ≤ 3 }
-    ensures { auths.new.items ≡ sessions.now }
-{
-    auths.clear();
-    for session in sessions {
-        push_copy(auths, session);
-    }
-}
-
 /// Reads the sessions of a command with this tag in the place of others.
+#[tactic(auto, unfolding(crate::specs::Commands::authorization, crate::specs::Commands::sessions))]
 pub(crate) fn read_authorization(
     cursor: &mut Cursor<'_>,
     tag: u16,
@@ -244,8 +212,13 @@ pub(crate) fn read_authorization(
     ensures none { OnOk result (tag ≢ 0x8002 → length auths.new.items ≡ 0) }
     ensures some { OnOk result (tag ≡ 0x8002 → 0 < length auths.new.items) }
 {
-    let mut lent = ArrayVec::new();
-    take_authorization_to(cursor, tag, &mut lent)?;
-    copy_all(lent.as_slice(), auths);
-    Ok(())
+    auths.clear();
+    if tag != SESSIONS {
+        return Ok(());
+    }
+    cursor.number(0);
+    let size = take_authorization_size(cursor)? as usize;
+    let behind = cursor.enter(size)?;
+    read_rest(cursor, 3, of_session(1), auths)?;
+    leave_authorization(cursor, behind)
 }

@@ -1,9 +1,14 @@
 //! The commands: what each has and what it answers, as values, and how these are read and written. What the chapters of
 //! Part 3 have of their own is in `commands`.
 
-ghost use Rattle.std.specs.Prelude.{◌≡◌, ◌≤◌, ◌+◌, ◌*◌, ◌++◌, length, ℕ, IfOk, OnOk};
+ghost use Rattle.std.specs.Prelude.{◌≡◌, ◌≤◌, ◌+◌, ◌*◌, ◌++◌, List, length, ℕ, IfOk, OnOk};
 ghost use Rattle.tpm_wire.specs.Spelling.{spelling, Fits};
 ghost use Rattle.tpm_wire.specs.Buffers.{TakesNumbered};
+ghost use Rattle.tpm_commands.specs.declared.command.CommandBody.TheVariants as bodies;
+ghost use Rattle.tpm_types.specs.declared.alg.Alg.{Alg as AlgOf};
+ghost use Rattle.tpm_types.specs.declared.command_code.CommandCode.TheVariants as codes;
+ghost use Rattle.tpm_commands.specs.Commands.Pcr.{pcr_extend};
+ghost use Rattle.tpm_commands.specs.Commands.Policy.{policy_or};
 ghost use Rattle.tpm_commands.specs.Limits.{most_params, most_reply_params};
 ghost use Rattle.tpm_commands.specs.Handles.{handle_kinds, needs_authorization as does_need, handles as handles_layout};
 ghost use Rattle.tpm_commands.specs.Parameters.{params_code, parameters};
@@ -17,8 +22,8 @@ use crate::command_handles::{
     policy_in, register_in, second_handle, two_handles,
 };
 use crate::commands::{
-    NvDefineSpace, NvRead, PolicyPcr, StartParams, nv, pcr, session, take_event, take_only,
-    take_startup,
+    NvDefineSpace, NvRead, PolicyPcr, StartParams, nv, pcr, read_only, session, take_event,
+    take_only, take_startup, two_digests,
 };
 use crate::lent::Event;
 use crate::response::{NvData, StartReply};
@@ -356,13 +361,55 @@ impl CommandBody<'_> {
 }
 
 impl<'a> CommandBody<'a> {
+    // Makes it a TPM2_PolicyOR whose digests are read. It is out of line, as the next is: every command would have the
+    // room of these digests, which begins with zeros.
+    #[tactic(auto, unfolding(crate::specs::Commands::Policy::policy_or))]
+    #[inline(never)]
+    fn read_or(&mut self, cursor: &mut Cursor<'a>, session: PolicyHandle) -> Result<(), Refusal>
+        ensures reads { TakesNumbered (λ _. params_of self.new) policy_or
+            cursor.old cursor.new result }
+        ensures spelled { OnOk result
+            (cursor.old.here.rest
+            ≡ spelling policy_or (params_of self.new) ++ cursor.new.here.rest) }
+        ensures own { OnOk result ((d : List (List ℕ)) × (self.new ≡ bodies.PolicyOr session d)) }
+    {
+        *self = CommandBody::PolicyOr {
+            session,
+            digests: two_digests(),
+        };
+        match self {
+            CommandBody::PolicyOr { digests, .. } => read_only(cursor, digests),
+            _ => unreachable!(),
+        }
+    }
+
+    // The same of TPM2_PCR_Extend.
+    #[tactic(auto, unfolding(crate::specs::Commands::Pcr::pcr_extend))]
+    #[inline(never)]
+    fn read_extend(&mut self, cursor: &mut Cursor<'a>, register: PcrOrNull) -> Result<(), Refusal>
+        ensures reads { TakesNumbered (λ _. params_of self.new) pcr_extend
+            cursor.old cursor.new result }
+        ensures spelled { OnOk result
+            (cursor.old.here.rest
+            ≡ spelling pcr_extend (params_of self.new) ++ cursor.new.here.rest) }
+        ensures own { OnOk result ((d : List (AlgOf × List ℕ)) × (self.new ≡ bodies.PcrExtend register d)) }
+    {
+        *self = CommandBody::PcrExtend {
+            register,
+            digests: DigestValues::default(),
+        };
+        match self {
+            CommandBody::PcrExtend { digests, .. } => read_only(cursor, digests),
+            _ => unreachable!(),
+        }
+    }
+
     /// Makes it the command with this code whose parameters are read, and whose handles have these numbers; or answers
     /// the parameters' first fault, with its number: INSUFFICIENT, VALUE, SIZE, HASH, SYMMETRIC, MODE or RESERVED_BITS
     /// (Part 3, the command table of each). Which command it is after a fault is not said.
     ///
     /// A handle that is missing, or that the command cannot have, is never met where both were read under one
     /// code; in its place stands one of its kind.
-    // (by one assignment: its value has one room by the toolchain's own compiler, and each arm's would have its own)
     #[tactic(auto, unfolding(crate::specs::Commands::Pcr::pcr_event, crate::specs::Commands::Context::flush_context, crate::specs::Commands::Policy::policy_command_code, crate::specs::Commands::Policy::policy_or, crate::specs::Commands::Pcr::pcr_read, crate::specs::Commands::Pcr::pcr_extend,))]
     #[inline(never)]
     pub fn read(
@@ -414,31 +461,30 @@ impl<'a> CommandBody<'a> {
                 session: policy_in(first),
                 code: take_only(cursor)?,
             },
-            CommandCode::PolicyOr => CommandBody::PolicyOr {
-                session: policy_in(first),
-                digests: take_only(cursor)?,
-            },
+            CommandCode::PolicyOr => return self.read_or(cursor, policy_in(first)),
             CommandCode::StartAuthSession => CommandBody::StartAuthSession(StartAuth {
                 bind: bind_in(second),
-                params: StartParams::take(cursor)?,
+                params: StartParams::any(),
             }),
-            CommandCode::PcrRead => CommandBody::PcrRead(take_only(cursor)?),
+            CommandCode::PcrRead => CommandBody::PcrRead(Selections::default()),
             CommandCode::PolicyPcr => CommandBody::PolicyPcr {
                 session: policy_in(first),
-                params: PolicyPcr::take(cursor)?,
+                params: PolicyPcr::default(),
             },
             CommandCode::PolicyRestart => CommandBody::PolicyRestart {
                 session: policy_in(first),
             },
-            CommandCode::PcrExtend => CommandBody::PcrExtend {
-                register: pcr_or_null_in(first),
-                digests: take_only(cursor)?,
-            },
+            CommandCode::PcrExtend => return self.read_extend(cursor, pcr_or_null_in(first)),
             CommandCode::PolicyGetDigest => CommandBody::PolicyGetDigest {
                 session: policy_in(first),
             },
         };
-        Ok(())
+        match self {
+            CommandBody::StartAuthSession(start) => start.params.read(cursor),
+            CommandBody::PcrRead(selections) => read_only(cursor, selections),
+            CommandBody::PolicyPcr { params, .. } => params.read(cursor),
+            _ => Ok(()),
+        }
     }
 }
 
@@ -478,9 +524,40 @@ impl Params<'_> {
 }
 
 impl<'a> Params<'a> {
+    // Makes them the digests of TPM2_PolicyOR that are read, out of line, as for a command with its handles.
+    #[tactic(auto, unfolding(crate::specs::Commands::Policy::policy_or))]
+    #[inline(never)]
+    fn read_or(&mut self, cursor: &mut Cursor<'a>) -> Result<(), Refusal>
+        ensures reads { TakesNumbered (λ _. self.new) policy_or cursor.old cursor.new result }
+        ensures spelled { OnOk result
+            (cursor.old.here.rest ≡ spelling policy_or self.new ++ cursor.new.here.rest) }
+        ensures code { OnOk result (params_code self.new ≡ codes.PolicyOr) }
+    {
+        *self = Params::PolicyOr(two_digests());
+        match self {
+            Params::PolicyOr(digests) => read_only(cursor, digests),
+            _ => unreachable!(),
+        }
+    }
+
+    // The same of TPM2_PCR_Extend.
+    #[tactic(auto, unfolding(crate::specs::Commands::Pcr::pcr_extend))]
+    #[inline(never)]
+    fn read_extend(&mut self, cursor: &mut Cursor<'a>) -> Result<(), Refusal>
+        ensures reads { TakesNumbered (λ _. self.new) pcr_extend cursor.old cursor.new result }
+        ensures spelled { OnOk result
+            (cursor.old.here.rest ≡ spelling pcr_extend self.new ++ cursor.new.here.rest) }
+        ensures code { OnOk result (params_code self.new ≡ codes.PcrExtend) }
+    {
+        *self = Params::PcrExtend(DigestValues::default());
+        match self {
+            Params::PcrExtend(digests) => read_only(cursor, digests),
+            _ => unreachable!(),
+        }
+    }
+
     // Makes them those of a command with this code that are read, or answers their first fault. Which are there after a
     // fault is not said.
-    // (by one assignment, as above)
     #[tactic(auto, unfolding(crate::specs::Commands::Pcr::pcr_event, crate::specs::Commands::Context::flush_context, crate::specs::Commands::Policy::policy_command_code, crate::specs::Commands::Policy::policy_or, crate::specs::Commands::Pcr::pcr_read, crate::specs::Commands::Pcr::pcr_extend,))]
     #[inline(never)]
     pub(crate) fn read(&mut self, cursor: &mut Cursor<'a>, code: CommandCode) -> Result<(), Refusal>
@@ -502,15 +579,20 @@ impl<'a> Params<'a> {
             CommandCode::NvReadPublic => Params::NvReadPublic,
             CommandCode::PolicyAuthValue => Params::PolicyAuthValue,
             CommandCode::PolicyCommandCode => Params::PolicyCommandCode(take_only(cursor)?),
-            CommandCode::PolicyOr => Params::PolicyOr(take_only(cursor)?),
-            CommandCode::StartAuthSession => Params::StartAuthSession(StartParams::take(cursor)?),
-            CommandCode::PcrRead => Params::PcrRead(take_only(cursor)?),
-            CommandCode::PolicyPcr => Params::PolicyPcr(PolicyPcr::take(cursor)?),
+            CommandCode::PolicyOr => return self.read_or(cursor),
+            CommandCode::StartAuthSession => Params::StartAuthSession(StartParams::any()),
+            CommandCode::PcrRead => Params::PcrRead(Selections::default()),
+            CommandCode::PolicyPcr => Params::PolicyPcr(PolicyPcr::default()),
             CommandCode::PolicyRestart => Params::PolicyRestart,
-            CommandCode::PcrExtend => Params::PcrExtend(take_only(cursor)?),
+            CommandCode::PcrExtend => return self.read_extend(cursor),
             CommandCode::PolicyGetDigest => Params::PolicyGetDigest,
         };
-        Ok(())
+        match self {
+            Params::StartAuthSession(params) => params.read(cursor),
+            Params::PcrRead(selections) => read_only(cursor, selections),
+            Params::PolicyPcr(params) => params.read(cursor),
+            _ => Ok(()),
+        }
     }
 }
 
@@ -576,10 +658,10 @@ pub fn read_reply_params(
         CommandCode::NvUndefineSpace => ReplyBody::NvUndefineSpace,
         CommandCode::NvDefineSpace => ReplyBody::NvDefineSpace,
         CommandCode::NvIncrement => ReplyBody::NvIncrement,
-        CommandCode::PcrEvent => ReplyBody::PcrEvent(take_only(cursor)?),
+        CommandCode::PcrEvent => return pcr::read_pcr_event_reply(cursor, body),
         CommandCode::PcrReset => ReplyBody::PcrReset,
         CommandCode::Startup => ReplyBody::Startup,
-        CommandCode::NvRead => ReplyBody::NvRead(take_only(cursor)?),
+        CommandCode::NvRead => ReplyBody::NvRead(NvData::default()),
         CommandCode::FlushContext => ReplyBody::FlushContext,
         CommandCode::NvReadPublic => return nv::read_nv_read_public_reply(cursor, body),
         CommandCode::PolicyAuthValue => ReplyBody::PolicyAuthValue,
@@ -593,9 +675,13 @@ pub fn read_reply_params(
         CommandCode::PolicyPcr => ReplyBody::PolicyPcr,
         CommandCode::PolicyRestart => ReplyBody::PolicyRestart,
         CommandCode::PcrExtend => ReplyBody::PcrExtend,
-        CommandCode::PolicyGetDigest => ReplyBody::PolicyGetDigest(take_only(cursor)?),
+        CommandCode::PolicyGetDigest => ReplyBody::PolicyGetDigest(Digest::default()),
     };
-    Ok(())
+    match body {
+        ReplyBody::NvRead(bytes) => read_only(cursor, bytes),
+        ReplyBody::PolicyGetDigest(digest) => read_only(cursor, digest),
+        _ => Ok(()),
+    }
 }
 
 impl ReplyBody {

@@ -1,6 +1,6 @@
 //! What the chapters of Part 3 have of their own: structures of parameters, and replies of more than one.
 
-ghost use Rattle.std.specs.Prelude.{◌≡◌, ◌++◌, IfOk};
+ghost use Rattle.std.specs.Prelude.{◌≡◌, ◌++◌, ◌∷◌, [], IfOk, OnOk};
 ghost use Rattle.tpm_wire.specs.Spelling.{spelling};
 ghost use Rattle.tpm_wire.specs.Buffers.{TakesNumbered, numbered};
 ghost use Rattle.tpm_wire.specs.ResponseCodes.{of_parameter as number_of_parameter};
@@ -19,6 +19,7 @@ pub use pcr::read_pcr_extend;
 pub use policy::PolicyPcr;
 pub use session::StartParams;
 pub use startup::take_startup;
+use tpm_types::{Digest, OrDigests};
 use tpm_wire::response_code::of_parameter;
 use tpm_wire::{Cursor, Refusal, Wire};
 
@@ -35,6 +36,31 @@ pub(crate) fn take_only<T: Wire>(cursor: &mut Cursor<'_>) -> Result<T, Refusal>
 {
     cursor.number(of_parameter(1));
     T::take(cursor)
+}
+
+/// Reads it in the place of another one, or answers its first fault.
+#[inline(always)]
+pub(crate) fn read_only<T: Wire + Drop>(
+    cursor: &mut Cursor<'_>,
+    only: &mut T,
+) -> Result<(), Refusal>
+    ensures reads { TakesNumbered (λ _. only.new) (numbered (number_of_parameter 1) T.layout)
+        cursor.old cursor.new result }
+    ensures spelled { OnOk result
+        (cursor.old.here.rest ≡ spelling T.layout only.new ++ cursor.new.here.rest) }
+{
+    cursor.number(of_parameter(1));
+    only.read(cursor)
+}
+
+/// The digests of a TPM2_PolicyOR that others are read in the place of: two, which are empty.
+pub(crate) fn two_digests() -> OrDigests
+    ensures { result ≡ [] ∷ [] ∷ [] }
+{
+    match OrDigests::new(&[Digest::default(), Digest::default()]) {
+        Some(digests) => digests,
+        None => unreachable!(),
+    }
 }
 
 /// The event that is read.

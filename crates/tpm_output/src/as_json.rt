@@ -1,15 +1,16 @@
 //! Marks as JSON.
 
-ghost use Rattle.std.specs.Prelude.{◌≡◌, ◌++◌, OnOk, option_map};
-ghost use Rattle.tpm_output.specs.Json.{begins, closing, ends, label, mark_text, opening, separator, units_member};
+ghost use Rattle.std.specs.Prelude.{◌≡◌, ◌++◌, OnOk, codes, option_map};
+ghost use Rattle.tpm_output.specs.Json.{closing, comma, ends, mark_text, opening, separator, units_member};
 ghost use Rattle.tpm_output.specs.Marks.{as_mark, as_value};
+ghost use Rattle.tpm_output.specs.Values.{in_json};
 
 use crate::escapes::is_whole;
 use crate::mark::{Mark, Shape, Value};
 use crate::puts::{put, put_bytes};
 use crate::sink::Sink;
 use crate::teller::{Teller, Told};
-use crate::values::{put_between, put_in_json};
+use crate::values::{is_string, put_between, put_in_json};
 
 /// Members of an object of JSON that are written.
 #[derive(Drop)]
@@ -39,15 +40,6 @@ fn closing(shape: Shape) -> &'static str
     }
 }
 
-fn begins(mark: &Mark<'_>) -> bool
-    ensures { result ≡ begins (as_mark mark.now) }
-{
-    match mark {
-        Mark::Says(_, _) | Mark::Opens(_, _) => true,
-        Mark::Part(_) | Mark::Closes(_) => false,
-    }
-}
-
 pub(crate) fn ends(mark: &Mark<'_>) -> bool
     ensures { result ≡ ends (as_mark mark.now) }
 {
@@ -57,24 +49,43 @@ pub(crate) fn ends(mark: &Mark<'_>) -> bool
     }
 }
 
-pub(crate) fn separator(behind: bool, mark: &Mark<'_>) -> &'static str
-    ensures { result.now ≡ separator behind (as_mark mark.now) }
+fn comma(behind: bool) -> &'static str
+    ensures { result.now ≡ comma behind }
 {
-    if behind && begins(mark) { "," } else { "" }
+    if behind { "," } else { "" }
 }
 
-fn put_label<S: Sink>(sink: &mut S, name: Option<&str>) -> Told
-    ensures { OnOk result (S.written sink.new
-        ≡ S.written sink.old ++ label (option_map (λ n. n.now) name.entry)) }
+// That, and the quotation mark of a name.
+fn before_name(behind: bool) -> &'static str
+    ensures { result.now ≡ comma behind ++ codes "\"" }
 {
-    match name {
-        Some(name) => {
-            put(sink, "\"")?;
-            put(sink, name)?;
-            put(sink, "\":")
-        }
-        None => Ok(()),
+    if behind { ",\"" } else { "\"" }
+}
+
+// The end of a name, and what is opened.
+fn named_opening(shape: Shape) -> &'static str
+    ensures { result.now ≡ codes "\":" ++ opening shape }
+{
+    match shape {
+        Shape::Object => "\":{",
+        Shape::List | Shape::Words => "\":[",
+        Shape::Text => "\":\"",
     }
+}
+
+// Puts the end of a name, and what it names. What stands together is put together, since most of the time of a text
+// goes into puts of a character.
+fn put_named<S: Sink>(sink: &mut S, value: &Value<'_>) -> Told
+    ensures { OnOk result (S.written sink.new
+        ≡ S.written sink.old ++ (codes "\":" ++ in_json (as_value value.now))) }
+{
+    if is_string(value) {
+        put(sink, "\":\"")?;
+        put_between(sink, value)?;
+        return put(sink, "\"");
+    }
+    put(sink, "\":")?;
+    put_between(sink, value)
 }
 
 fn put_units<S: Sink>(sink: &mut S, name: Option<&str>, value: &Value<'_>) -> Told
@@ -91,18 +102,28 @@ fn put_units<S: Sink>(sink: &mut S, name: Option<&str>, value: &Value<'_>) -> To
     Ok(())
 }
 
-pub(crate) fn put_mark<S: Sink>(sink: &mut S, mark: &Mark<'_>) -> Told
-    ensures { OnOk result (S.written sink.new
-        ≡ S.written sink.old ++ mark_text (as_mark mark.now)) }
+pub(crate) fn put_mark<S: Sink>(sink: &mut S, behind: bool, mark: &Mark<'_>) -> Told
+    ensures { OnOk result (S.written sink.new ≡ S.written sink.old
+        ++ (separator behind (as_mark mark.now) ++ mark_text (as_mark mark.now))) }
 {
     match mark {
-        Mark::Says(name, value) => {
-            put_label(sink, *name)?;
-            put_in_json(sink, value)?;
-            put_units(sink, *name, value)
+        Mark::Says(Some(name), value) => {
+            put(sink, before_name(behind))?;
+            put(sink, name)?;
+            put_named(sink, value)?;
+            put_units(sink, Some(name), value)
         }
-        Mark::Opens(name, shape) => {
-            put_label(sink, *name)?;
+        Mark::Says(None, value) => {
+            put(sink, comma(behind))?;
+            put_in_json(sink, value)
+        }
+        Mark::Opens(Some(name), shape) => {
+            put(sink, before_name(behind))?;
+            put(sink, name)?;
+            put(sink, named_opening(*shape))
+        }
+        Mark::Opens(None, shape) => {
+            put(sink, comma(behind))?;
             put(sink, opening(*shape))
         }
         Mark::Part(value) => put_between(sink, value),
@@ -121,8 +142,7 @@ impl<S: Sink + Drop> Teller for Json<S> {
     ghost tells = { add_json };
 
     fn tell(&mut self, mark: &Mark<'_>) -> Told {
-        put(&mut self.sink, separator(self.behind, mark))?;
-        put_mark(&mut self.sink, mark)?;
+        put_mark(&mut self.sink, self.behind, mark)?;
         self.behind = ends(mark);
         Ok(())
     }

@@ -7,10 +7,11 @@ ghost use Rattle.tpm_commands.specs.Limits.{most_reply_params};
 ghost use Rattle.tpm_types.specs.declared.command_code.CommandCode.TheVariants as codes;
 ghost use Rattle.tpm_commands.specs.declared.command.Params.TheVariants as params;
 ghost use Rattle.tpm_commands.specs.declared.command.ReplyBody.TheVariants as replies;
-ghost use Rattle.tpm_commands.specs.Commands.Pcr.{pcr_extend, pcr_read_reply};
+ghost use Rattle.tpm_commands.specs.Commands.Pcr.{pcr_event_reply, pcr_extend, pcr_read_reply};
 ghost use Rattle.tpm_commands.specs.Replies.{code_for_reply, IsReplyTo};
 
 use crate::command::ReplyBody;
+use crate::commands::read_only;
 use tpm_types::{DigestValues, Digests, Selections};
 use tpm_wire::response_code::of_parameter;
 use tpm_wire::{Cursor, Refusal, Room, Wire};
@@ -29,6 +30,27 @@ pub fn read_pcr_extend(cursor: &mut Cursor<'_>, digests: &mut DigestValues) -> R
 {
     cursor.number(of_parameter(1));
     digests.read(cursor)
+}
+
+// ---- TPM2_PCR_Event (22.3)
+
+// (out of line, as for a command)
+#[tactic(auto, unfolding(crate::specs::Commands::Pcr::pcr_event_reply))]
+#[inline(never)]
+pub(crate) fn read_pcr_event_reply(
+    cursor: &mut Cursor<'_>,
+    body: &mut ReplyBody,
+) -> Result<(), Refusal>
+    ensures reads { TakesNumbered (λ _. body.new) pcr_event_reply cursor.old cursor.new result }
+    ensures spelled { OnOk result
+        (cursor.old.here.rest ≡ spelling pcr_event_reply body.new ++ cursor.new.here.rest) }
+    ensures own { OnOk result (IsReplyTo codes.PcrEvent None body.new) }
+{
+    *body = ReplyBody::PcrEvent(DigestValues::default());
+    match body {
+        ReplyBody::PcrEvent(digests) => read_only(cursor, digests),
+        _ => unreachable!(),
+    }
 }
 
 // ---- TPM2_PCR_Read (22.4)

@@ -1,6 +1,6 @@
 //! The commands of policies (Part 3, 23).
 
-ghost use Rattle.std.specs.Prelude.{◌≡◌, ◌≤◌, ◌+◌, ◌++◌, length, ℕ, IfOk};
+ghost use Rattle.std.specs.Prelude.{◌≡◌, ◌≤◌, ◌+◌, ◌++◌, length, ℕ, OnOk};
 ghost use Rattle.tpm_wire.specs.Spelling.{spelling, Fits};
 ghost use Rattle.tpm_wire.specs.Buffers.{TakesNumbered};
 ghost use Rattle.tpm_commands.specs.Limits.{most_params};
@@ -14,7 +14,7 @@ use tpm_wire::{Cursor, Refusal, Room, Wire};
 // ---- TPM2_PolicyPCR (23.7)
 
 /// The parameters of TPM2_PolicyPCR.
-#[derive(Drop)]
+#[derive(Default, Drop)]
 pub struct PolicyPcr {
     pub pcr_digest: Digest,
     pub selections: Selections,
@@ -22,22 +22,17 @@ pub struct PolicyPcr {
 
 #[tactic(auto, unfolding(crate::specs::Commands::Policy::policy_pcr))]
 impl PolicyPcr {
-    #[inline(never)]
-    pub(crate) fn take(cursor: &mut Cursor<'_>) -> Result<Self, Refusal>
-        ensures reads { TakesNumbered (λ p. params.PolicyPcr p) policy_pcr
+    pub(crate) fn read(&mut self, cursor: &mut Cursor<'_>) -> Result<(), Refusal>
+        ensures reads { TakesNumbered (λ _. params.PolicyPcr self.new) policy_pcr
             cursor.old cursor.new result }
-        ensures spelled { IfOk result
-            (λ p. cursor.old.here.rest
-            ≡ spelling policy_pcr (params.PolicyPcr p) ++ cursor.new.here.rest) }
+        ensures spelled { OnOk result
+            (cursor.old.here.rest
+            ≡ spelling policy_pcr (params.PolicyPcr self.new) ++ cursor.new.here.rest) }
     {
         cursor.number(of_parameter(1));
-        let pcr_digest = Digest::take(cursor)?;
+        self.pcr_digest.read(cursor)?;
         cursor.number(of_parameter(2));
-        let selections = Selections::take(cursor)?;
-        Ok(PolicyPcr {
-            pcr_digest,
-            selections,
-        })
+        self.selections.read(cursor)
     }
 
     #[inline(always)]

@@ -63,19 +63,6 @@ impl StartParams {
         self.auth_hash.read(cursor)
     }
 
-    #[inline(never)]
-    pub(crate) fn take(cursor: &mut Cursor<'_>) -> Result<Self, Refusal>
-        ensures reads { TakesNumbered (λ p. params.StartAuthSession p) start_auth_session
-            cursor.old cursor.new result }
-        ensures spelled { IfOk result
-            (λ p. cursor.old.here.rest
-            ≡ spelling start_auth_session (params.StartAuthSession p) ++ cursor.new.here.rest) }
-    {
-        let mut start = StartParams::any();
-        start.read(cursor)?;
-        Ok(start)
-    }
-
     #[inline(always)]
     pub(crate) fn has_spelling(&self)
         ensures { (left : ℕ)
