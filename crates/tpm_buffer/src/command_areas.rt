@@ -1,6 +1,6 @@
 //! A command cut where its checks begin: the header, the handles, the sessions, and the parameters as they came.
 
-ghost use Rattle.std.specs.Prelude.{◌≡◌, ◌≤◌, ◌<◌, IfOk, length, slice_get};
+ghost use Rattle.std.specs.Prelude.{◌≡◌, ◌≤◌, ◌<◌, IfOk, IfErr, OnOk, Ok, Err, length, slice_get};
 ghost use Rattle.tpm_wire.specs.Token.{at_start};
 ghost use Rattle.tpm_wire.specs.Layout.{cut};
 ghost use Rattle.tpm_wire.specs.Reading.{read, Gives};
@@ -12,8 +12,8 @@ ghost use Rattle.tpm_buffer.specs.inner.CommandAreas.{areas_view};
 ghost use Rattle.tpm_buffer.specs.CommandAreas.{IsAreas, HasAreas, IsSpelledBy};
 ghost use Rattle.tpm_buffer.specs.inner.CommandAreas.{cut_of};
 
-use crate::command_header::{long_fault, take_header};
-use crate::command_sessions::{AuthRef, read_authorization, take_authorization_to};
+use crate::command_header::{NO_SESSIONS, long_fault, take_header};
+use crate::command_sessions::{AuthRef, read_authorization};
 use arrayvec::ArrayVec;
 use std::marker::Model;
 use tpm_commands::{Header, take_handles};
@@ -135,32 +135,54 @@ impl<'a> Handled<'a> {
 
     /// Reads the sessions, or answers the authorization area's first fault: INSUFFICIENT; AUTHSIZE; or INSUFFICIENT,
     /// VALUE, SIZE or RESERVED_BITS of a session, with its number. The parameters are not judged.
-    #[inline(always)]
     pub fn areas(self) -> Result<Areas<'a>, Refusal>
         ensures decodes { HasAreas self.entry result }
         ensures reads { IsAreas self.entry result }
     {
-        read_sessions(self)
+        let mut areas = Areas::default();
+        match read_areas(self, &mut areas) {
+            Ok(()) => Ok(areas),
+            Err(fault) => Err(fault),
+        }
+    }
+
+    /// As `areas`, in the place of other areas. Which are there after a fault is not said.
+    pub fn areas_into(self, areas: &mut Areas<'a>) -> Result<(), Refusal>
+        ensures reads { OnOk result (IsAreas self.entry (Ok areas.new)) }
+        ensures refuses { IfErr result (λ fault. IsAreas self.entry (Err fault)) }
+    {
+        read_areas(self, areas)
     }
 }
 
-#[inline(always)]
-fn read_sessions(handled: Handled<'_>) -> Result<Areas<'_>, Refusal>
-    ensures { IsAreas handled.entry result }
+fn read_areas<'a>(handled: Handled<'a>, areas: &mut Areas<'a>) -> Result<(), Refusal>
+    ensures reads { OnOk result (IsAreas handled.entry (Ok areas.new)) }
+    ensures refuses { IfErr result (λ fault. IsAreas handled.entry (Err fault)) }
 {
-    let header = handled.header;
-    let handles = handled.handles;
     let mut cursor = handled.cursor;
-    let mut auths = ArrayVec::new();
-    take_authorization_to(&mut cursor, header.tag, &mut auths)?;
-    let params_at = cursor.at();
-    Ok(Areas {
-        header,
-        handles,
-        auths,
-        params: cursor.remaining(),
-        params_at,
-    })
+    areas.header = handled.header;
+    areas.handles = handled.handles;
+    read_authorization(&mut cursor, handled.header.tag, &mut areas.auths)?;
+    areas.params_at = cursor.at();
+    areas.params = cursor.remaining();
+    Ok(())
+}
+
+/// Those of a TPM2_Startup that has no parameters.
+impl Default for Areas<'_> {
+    fn default() -> Self {
+        Areas {
+            header: Header {
+                tag: NO_SESSIONS,
+                size: 10,
+                code: CommandCode::Startup,
+            },
+            handles: ArrayVec::new(),
+            auths: ArrayVec::new(),
+            params: &[],
+            params_at: 10,
+        }
+    }
 }
 
 impl<'a> Areas<'a> {
@@ -285,7 +307,7 @@ fn short_areas(bytes: &[u8]) -> Result<Areas<'_>, Refusal>
     let header = take_header(&mut cursor)?;
     let handles = take_handles(&mut cursor, header.code)?;
     let mut auths = ArrayVec::new();
-    take_authorization_to(&mut cursor, header.tag, &mut auths)?;
+    read_authorization(&mut cursor, header.tag, &mut auths)?;
     let params_at = cursor.at();
     Ok(Areas {
         header,

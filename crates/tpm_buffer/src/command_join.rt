@@ -6,7 +6,7 @@ ghost use Rattle.tpm_buffer.specs.Parts.{authorization_of, joined};
 use crate::command_header::tag_for;
 use std::marker::Model;
 use tpm_types::CommandCode;
-use tpm_wire::{Buffer, put_bytes};
+use tpm_wire::{Buffer, Wire, put_bytes};
 
 // How many bytes the joined parts have, or None where a number can't say it.
 fn joined_len(handles: &[u8], sessions: &[u8], parameters: &[u8]) -> Option<usize>
@@ -33,7 +33,7 @@ fn put_authorization(out: &mut Buffer, sessions: &[u8])
     ensures { out.new.items ≡ out.old.items ++ authorization_of sessions.now }
 {
     if !sessions.is_empty() {
-        put_bytes(out, &(sessions.len() as u32).to_be_bytes());
+        (sessions.len() as u32).put(out);
         put_bytes(out, sessions);
     }
 }
@@ -104,9 +104,9 @@ impl<'a> UnjoinedCommand<'a> {
         ensures { out.new.items ≡ self.now }
     {
         out.clear();
-        put_bytes(out, &tag_for(self.sessions).to_be_bytes());
-        put_bytes(out, &(self.size as u32).to_be_bytes());
-        put_bytes(out, &self.code.number().to_be_bytes());
+        tag_for(self.sessions).put(out);
+        (self.size as u32).put(out);
+        self.code.number().put(out);
         put_bytes(out, self.handles);
         put_authorization(out, self.sessions);
         put_bytes(out, self.parameters);

@@ -1,7 +1,8 @@
 //! A command's authorization area (Part 1, "Command/Response Structure"): its sessions.
 
-ghost use Rattle.std.specs.Prelude.{◌≡◌, ◌≢◌, ◌<◌, ◌≤◌, [], ◌∷◌, ◌++◌, IfOk, OnOk, length};
+ghost use Rattle.std.specs.Prelude.{◌≡◌, ◌≢◌, ◌<◌, ◌≤◌, [], ◌++◌, IfOk, OnOk, List, length};
 ghost use Rattle.tpm_types.specs.Limits.{digest_bytes};
+ghost use Rattle.tpm_types.specs.declared.tpms.Auth.{Auth};
 ghost use Rattle.tpm_types.specs.Tpms.{auth_command};
 ghost use Rattle.tpm_wire.specs.Spelling.{spelling};
 ghost use Rattle.tpm_wire.specs.Buffers.{Takes, TakesNumbered};
@@ -101,26 +102,56 @@ fn take_session<'a>(cursor: &mut Cursor<'a>) -> Result<AuthRef<'a>, Refusal>
     Ok(AuthRef { session, shared })
 }
 
-// Takes the sessions to the end of the area: at most three. They are put where they stay, since what is answered is
-// copied.
-#[tactic(auto, unfolding(crate::specs::Commands::sessions))]
-fn take_sessions<'a>(
-    cursor: &mut Cursor<'a>,
-    auths: &mut ArrayVec<AuthRef<'a>, 3>,
-) -> Result<(), Refusal>
-    requires { auths.old.items ≡ [] }
-    ensures reads { TakesNumbered (λ _. auths.new.items) sessions cursor.old cursor.new result }
-    ensures spelled { OnOk result
-        (cursor.old.here.rest ≡ spelling sessions auths.new.items ++ cursor.new.here.rest) }
-    ensures some { OnOk result
-        (length cursor.new.here.rest < length cursor.old.here.rest → 0 < length auths.new.items) }
-{
-    while cursor.left() > 0 && auths.len() < 3 {
-        cursor.number(of_session(1 + auths.len() as u32));
-        let session = take_session(cursor)?;
-        auths.push(session);
+/// Where the sessions of a command are read to: lent from its bytes, or owned.
+pub(crate) trait SessionList<'a> {
+    /// The sessions that are in it.
+    ghost listed: { Self → List Auth };
+
+    /// Takes out what is in it.
+    fn clear(&mut self)
+        ensures { listed self.new ≡ [] };
+
+    /// Reads the sessions to the end of the area, at most three, to where there are none yet.
+    fn read_sessions(&mut self, cursor: &mut Cursor<'a>) -> Result<(), Refusal>
+        requires { listed self.old ≡ [] }
+        ensures reads { TakesNumbered (λ _. listed self.new) sessions cursor.old cursor.new result }
+        ensures spelled { OnOk result
+            (cursor.old.here.rest ≡ spelling sessions (listed self.new) ++ cursor.new.here.rest) }
+        ensures some { OnOk result
+            (length cursor.new.here.rest < length cursor.old.here.rest
+            → 0 < length (listed self.new)) };
+}
+
+impl<'a> SessionList<'a> for ArrayVec<AuthRef<'a>, 3> {
+    ghost listed = { λ v. v.items };
+
+    fn clear(&mut self) {
+        self.clear();
     }
-    Ok(())
+
+    // They are put where they stay, since what is answered is copied.
+    #[tactic(auto, unfolding(crate::specs::Commands::sessions))]
+    fn read_sessions(&mut self, cursor: &mut Cursor<'a>) -> Result<(), Refusal> {
+        while cursor.left() > 0 && self.len() < 3 {
+            cursor.number(of_session(1 + self.len() as u32));
+            let session = take_session(cursor)?;
+            self.push(session);
+        }
+        Ok(())
+    }
+}
+
+impl<'a> SessionList<'a> for ArrayVec<Auth, 3> {
+    ghost listed = { λ v. v.items };
+
+    fn clear(&mut self) {
+        self.clear();
+    }
+
+    #[tactic(auto, unfolding(crate::specs::Commands::sessions))]
+    fn read_sessions(&mut self, cursor: &mut Cursor<'a>) -> Result<(), Refusal> {
+        read_rest(cursor, 3, of_session(1), self)
+    }
 }
 
 // Reads authorizationSize (Part 1, "Command/Response Structure"). AUTHSIZE at its place where it is less than the 9
@@ -153,35 +184,36 @@ fn leave_authorization<'a>(cursor: &mut Cursor<'a>, behind: Outer<'a>) -> Result
     }
 }
 
-/// Takes the sessions of a command with this tag, none for another than 0x8002, to where there are none yet.
+/// Reads the sessions of a command with this tag, none for another than 0x8002, in the place of others; or answers the
+/// authorization area's first fault, as `Handled::areas` does (Part 1, "Command/Response Structure").
 #[tactic(auto, unfolding(crate::specs::Commands::authorization))]
 #[inline(never)]
-pub(crate) fn take_authorization_to<'a>(
+pub(crate) fn read_authorization<'a, S: SessionList<'a>>(
     cursor: &mut Cursor<'a>,
     tag: u16,
-    auths: &mut ArrayVec<AuthRef<'a>, 3>,
+    auths: &mut S,
 ) -> Result<(), Refusal>
-    requires { auths.old.items ≡ [] }
-    ensures reads { TakesNumbered (λ _. auths.new.items) (authorization tag)
+    ensures reads { TakesNumbered (λ _. S.listed auths.new) (authorization tag)
         cursor.old cursor.new result }
     ensures spelled { OnOk result
         (cursor.old.here.rest
-        ≡ spelling (authorization tag) auths.new.items ++ cursor.new.here.rest) }
-    ensures none { OnOk result (tag ≢ 0x8002 → length auths.new.items ≡ 0) }
-    ensures some { OnOk result (tag ≡ 0x8002 → 0 < length auths.new.items) }
+        ≡ spelling (authorization tag) (S.listed auths.new) ++ cursor.new.here.rest) }
+    ensures none { OnOk result (tag ≢ 0x8002 → length (S.listed auths.new) ≡ 0) }
+    ensures some { OnOk result (tag ≡ 0x8002 → 0 < length (S.listed auths.new)) }
 {
+    auths.clear();
     if tag != SESSIONS {
         return Ok(());
     }
     cursor.number(0);
     let size = take_authorization_size(cursor)? as usize;
     let behind = cursor.enter(size)?;
-    take_sessions(cursor, auths)?;
+    auths.read_sessions(cursor)?;
     leave_authorization(cursor, behind)
 }
 
-/// Reads the sessions of a command with this tag, none for another than 0x8002, or answers the authorization area's
-/// first fault, as `Handled::areas` does (Part 1, "Command/Response Structure").
+/// The sessions of a command with this tag, which lend their nonces and their HMACs from the input; or the
+/// authorization area's first fault, as `Handled::areas` answers it (Part 1, "Command/Response Structure").
 pub fn take_authorization<'a>(
     cursor: &mut Cursor<'a>,
     tag: u16,
@@ -193,32 +225,6 @@ pub fn take_authorization<'a>(
     ensures some { IfOk result (λ v. tag ≡ 0x8002 → 0 < length v.items) }
 {
     let mut auths = ArrayVec::new();
-    take_authorization_to(cursor, tag, &mut auths)?;
+    read_authorization(cursor, tag, &mut auths)?;
     Ok(auths)
-}
-
-/// Reads the sessions of a command with this tag in the place of others.
-#[tactic(auto, unfolding(crate::specs::Commands::authorization, crate::specs::Commands::sessions))]
-pub(crate) fn read_authorization(
-    cursor: &mut Cursor<'_>,
-    tag: u16,
-    auths: &mut ArrayVec<Auth, 3>,
-) -> Result<(), Refusal>
-    ensures reads { TakesNumbered (λ _. auths.new.items) (authorization tag)
-        cursor.old cursor.new result }
-    ensures spelled { OnOk result
-        (cursor.old.here.rest
-        ≡ spelling (authorization tag) auths.new.items ++ cursor.new.here.rest) }
-    ensures none { OnOk result (tag ≢ 0x8002 → length auths.new.items ≡ 0) }
-    ensures some { OnOk result (tag ≡ 0x8002 → 0 < length auths.new.items) }
-{
-    auths.clear();
-    if tag != SESSIONS {
-        return Ok(());
-    }
-    cursor.number(0);
-    let size = take_authorization_size(cursor)? as usize;
-    let behind = cursor.enter(size)?;
-    read_rest(cursor, 3, of_session(1), auths)?;
-    leave_authorization(cursor, behind)
 }

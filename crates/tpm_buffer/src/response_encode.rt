@@ -132,9 +132,10 @@ fn tag_of_code(error: ErrorCode) -> u16
     }
 }
 
-fn put_header(error: ErrorCode, out: &mut Buffer)
-    requires { length out.old.items ≡ 0 }
-    ensures bytes { out.new.items
+fn put_header<R: Room>(error: ErrorCode, out: &mut R)
+    requires empty { length (R.written out.old) ≡ 0 }
+    requires room { 10 ≤ R.size }
+    ensures bytes { R.written out.new
         ≡ bytes_high_first 2 (code_tag error)
         ++ (bytes_high_first 4 10 ++ bytes_high_first 4 error) }
     ensures number { (0 < error) × (error < 2 ^ 32) }
@@ -144,14 +145,15 @@ fn put_header(error: ErrorCode, out: &mut Buffer)
     error.number().put(out);
 }
 
-/// Adds to an empty buffer what `encode_response` answers for a response that is this code.
+/// Adds to an empty room what `encode_response` answers for a response that is this code, in 10 bytes.
 #[inline(never)]
-pub fn put_code(error: ErrorCode, out: &mut Buffer)
-    requires { length out.old.items ≡ 0 }
+pub fn put_code<R: Room>(error: ErrorCode, out: &mut R)
+    requires empty { length (R.written out.old) ≡ 0 }
+    requires room { 10 ≤ R.size }
     ensures spells { (code : CodeOf)
-        → Spells (response_layout code) (responses.Code error) out.new.items }
+        → Spells (response_layout code) (responses.Code error) (R.written out.new) }
     ensures bytes { (code : CodeOf)
-        → out.new.items ≡ spelling (response_layout code) (responses.Code error) }
+        → R.written out.new ≡ spelling (response_layout code) (responses.Code error) }
 {
     put_header(error, out);
 }

@@ -1,26 +1,26 @@
 //! The lines of a list of allowed digests.
 
-ghost use Rattle.std.specs.Prelude.{◌≡◌, ◌<◌, ◌≤◌, ◌∷◌, IfOk, IfSome, length, option_map, position};
+ghost use Rattle.std.specs.Prelude.{◌≡◌, ◌<◌, ◌≤◌, ◌^◌, ◌∷◌, IfOk, IfSome, length, option_map, position};
 ghost use Rattle.memchr.specs.Find.{is_byte};
 ghost use Rattle.std.specs.List.{before_first, slice_split};
 ghost use Rattle.tpm_output.specs.Text.{bytes_in};
 ghost use Rattle.tpm_check.specs.AllowLines.{allow_line, allowed_in, allowing, allowing_in, is_blank, is_feed};
 ghost use Rattle.tpm_check.specs.inner.AllowReading.{lines_left, read_as};
 
+use crate::allowed_line::AllowedLine;
 use crate::stated::{bank_named, cut, register_named};
 use memchr::memchr;
 use std::alloc::{AllocError, Global};
-use tpm_types::{Alg, DIGEST_BYTES, HashedDigest, PcrIndex};
-use tpm_vouched::AllowedDigest;
+use tpm_types::{Alg, PcrIndex};
 
 /// No line that allows a digest has fewer bytes, with the line feed behind it.
 const SHORTEST_LINE: usize = 48;
 
 /// What a line says.
 #[derive(Drop)]
-pub(crate) enum AllowLine {
+pub(crate) enum AllowLine<'a> {
     /// A digest by which a register may be extended.
-    Allows(AllowedDigest),
+    Allows(AllowedLine<'a>),
     /// Nothing: it has no word before a comment.
     Nothing,
     /// None of these.
@@ -28,17 +28,11 @@ pub(crate) enum AllowLine {
 }
 
 // What hexadecimal digits allow, where they spell a digest of the bank.
-#[tactic(auto, using(crate::proofs::AllowReading::spelled, crate::proofs::AllowReading::not_spelled))]
-fn read_digest(bank: Alg, register: PcrIndex, digits: &[u8]) -> AllowLine
+fn read_digest(bank: Alg, register: PcrIndex, digits: &[u8]) -> AllowLine<'_>
     ensures { result ≡ allowing bank register (bytes_in digits.now) }
 {
-    let mut bytes = [0; DIGEST_BYTES];
-    let bytes = &mut bytes[..bank.digest_len()];
-    if hex::decode_to_slice(digits, bytes).is_err() {
-        return AllowLine::Wrong;
-    }
-    match HashedDigest::new(bank, bytes) {
-        Some(digest) => AllowLine::Allows(AllowedDigest { register, digest }),
+    match AllowedLine::new(bank, register, digits) {
+        Some(line) => AllowLine::Allows(line),
         None => AllowLine::Wrong,
     }
 }
@@ -62,7 +56,7 @@ fn before(byte: u8, bytes: &[u8]) -> &[u8]
 }
 
 // What the words of a line say.
-fn read_words(text: &[u8]) -> AllowLine
+fn read_words(text: &[u8]) -> AllowLine<'_>
     ensures { result ≡ allowing_in text.now }
 {
     let (bank, behind) = cut(text);
@@ -80,7 +74,7 @@ fn is_blank(text: &[u8]) -> bool
     text.iter().all(|byte| *byte == b' ')
 }
 
-fn read_line(line: &[u8]) -> AllowLine
+fn read_line(line: &[u8]) -> AllowLine<'_>
     ensures { result ≡ allow_line line.now }
 {
     let text = before(b'#', line);
@@ -103,7 +97,7 @@ fn cut_line(bytes: &[u8]) -> (&[u8], Option<&[u8]>)
     }
 }
 
-/// The digests of a list, or the number of the first line that is wrong.
+/// The digests of a list, fewer than 2^32, or the number of the first line that is wrong.
 ///
 /// A line has a bank, the number of a register in decimal, and a digest in as many hexadecimal digits as those of the
 /// bank's hash have, with one space between them. Words behind the digest say nothing. A comment begins with `#`, and a
@@ -112,9 +106,10 @@ fn cut_line(bytes: &[u8]) -> (&[u8], Option<&[u8]>)
 pub(crate) fn read_allowed(
     alloc: Global,
     bytes: &[u8],
-) -> Result<Result<Vec<AllowedDigest>, u64>, AllocError>
+) -> Result<Result<Vec<AllowedLine<'_>>, u64>, AllocError>
     requires { length bytes.now ≤ 16777216 }
-    ensures { IfOk result (λ read. read_as read ≡ allowed_in bytes.now) }
+    ensures value { IfOk result (λ read. read_as read ≡ allowed_in bytes.now) }
+    ensures few { IfOk result (λ read. IfOk read (λ found. length found.items < 2 ^ 32)) }
 {
     let mut found = Vec::with_capacity(alloc, bytes.len() / SHORTEST_LINE + 1)?;
     let mut number = 0;
@@ -123,7 +118,7 @@ pub(crate) fn read_allowed(
         let (line, behind) = cut_line(lines);
         number += 1;
         match read_line(line) {
-            AllowLine::Allows(digest) => found.push(digest)?,
+            AllowLine::Allows(line) => found.push(line)?,
             AllowLine::Nothing => {}
             AllowLine::Wrong => return Ok(Err(number)),
         }

@@ -1,7 +1,7 @@
 //! The subcommand `check` of a list of allowed digests, beside a quote as it was signed.
 
-ghost use Rattle.std.specs.Prelude.{◌≡◌, ℕ, List, Ok, Some, false, map, IfOk, IfSome, IsErrOf};
-ghost use Rattle.std.specs.Prelude.{option_map, string_bytes};
+ghost use Rattle.std.specs.Prelude.{◌≡◌, ◌<◌, ◌^◌, ℕ, List, Ok, Some, false, map, IfOk, IfSome, IsErrOf};
+ghost use Rattle.std.specs.Prelude.{length, option_map, string_bytes};
 ghost use Rattle.std.specs.Io.KnownBytes.{Appends};
 ghost use Rattle.tpm_wire.specs.Sources.{IsWhereItFailed};
 ghost use Rattle.tpm_log.specs.Events.{ParsedLog, shown};
@@ -24,6 +24,7 @@ ghost use Rattle.tpm_check.specs.Compare.{Verdict, not_a_register_text, printed}
 use crate::allow_index::AllowIndex;
 use crate::allow_lines::read_allowed;
 use crate::allow_told::AllowTold;
+use crate::allowed_line::AllowedLine;
 use crate::beside::Beside;
 use crate::check_json::ok_text;
 use crate::checked::tell_fault;
@@ -46,7 +47,6 @@ use tpm_output::reads::read_up_to;
 use tpm_output::status::Status;
 use tpm_pcr::Registers;
 use tpm_types::Selections;
-use tpm_vouched::AllowedDigest;
 use tpm_wire::Source;
 
 // What is printed of a log beside a list.
@@ -102,8 +102,9 @@ impl<'a, 'b, 'c> VouchedLog<'a, 'b, 'c> {
     fn answer_to_digests(
         &self,
         alloc: Global,
-        digests: &[AllowedDigest],
+        digests: &[AllowedLine<'_>],
     ) -> Result<Answer, AllocError>
+        requires { length digests.now < 2 ^ 32 }
         ensures { IfOk result (λ a. SaysOfRead (vouched_log self.now) (Ok digests.now)
             (printed a.status (string_bytes a.text))) }
     {
@@ -242,8 +243,9 @@ pub(crate) fn print_beside<W: Write>(
 }
 
 // The digests of a list, where it isn't too long and no line is wrong.
-fn digests_of(alloc: Global, bytes: &[u8]) -> Result<Option<Vec<AllowedDigest>>, AllocError>
-    ensures { IfOk result (λ read. IfSome read (λ digests. AreAllOf bytes.now digests.items)) }
+fn digests_of(alloc: Global, bytes: &[u8]) -> Result<Option<Vec<AllowedLine<'_>>>, AllocError>
+    ensures { IfOk result (λ read. IfSome read (λ digests.
+        AreAllOf bytes.now digests.items × (length digests.items < 2 ^ 32))) }
 {
     if bytes.len() > MOST_BYTES {
         return Ok(None);

@@ -25,8 +25,7 @@ use tpm_wire::{Cursor, Refusal, Wire};
 
 // ---- a command's only parameter
 
-/// What is read, or its first fault. It is out of line, as is what reads several parameters: so no command has the room
-/// of another's on the stack, and code that moves a value stands once.
+/// What is read, or its first fault.
 #[inline(never)]
 pub(crate) fn take_only<T: Wire>(cursor: &mut Cursor<'_>) -> Result<T, Refusal>
     ensures reads { TakesNumbered (λ x. x) (numbered (number_of_parameter 1) T.layout)

@@ -1,4 +1,5 @@
-//! TPM2_PolicyPCR from its parameters to its reply. The room of neither is on the stack while the registers are hashed.
+//! TPM2_PolicyPCR from its parameters to its reply. The room of neither is on the stack while the registers are hashed,
+//! as for TPM2_StartAuthSession.
 
 ghost use Rattle.std.specs.Prelude.{◌≡◌, Ok, Err, IfOk, IfErr};
 ghost use Rattle.tpm_wire.specs.declared.refusal.Refusal.{Refusal as Fault};

@@ -1,7 +1,7 @@
 //! The parameters of a command that has none, or a number or two, by value.
 //!
-//! `decode_params_into` fills the room of parameters, which is that of the longest. These are made
-//! in line, and so the compiler keeps them in registers.
+//! `decode_params_into` fills the room of parameters, which is that of the longest. These are made in line, and so the
+//! compiler keeps them in registers.
 
 ghost use Rattle.std.specs.Prelude.{◌≡◌, ◌≤◌, length, Ok, IfSome};
 ghost use Rattle.tpm_wire.specs.Reading.{read_all};
@@ -21,10 +21,9 @@ fn startup_kind(bytes: &[u8]) -> Option<StartupType>
         read_all (parameters codes.Startup) bytes.now ≡ Ok (of_command.Startup kind)) }
 {
     let mut cursor = Cursor::new(bytes);
-    match take_startup(&mut cursor) {
-        Ok(kind) if cursor.left() == 0 => Some(kind),
-        _ => None,
-    }
+    let kind = take_startup(&mut cursor).ok()?;
+    cursor.end().ok()?;
+    Some(kind)
 }
 
 // The size and the offset of TPM2_NV_Read, where the bytes spell them.
@@ -35,10 +34,9 @@ fn nv_read_sizes(bytes: &[u8]) -> Option<NvRead>
         read_all (parameters codes.NvRead) bytes.now ≡ Ok (of_command.NvRead x)) }
 {
     let mut cursor = Cursor::new(bytes);
-    match NvRead::take(&mut cursor) {
-        Ok(sizes) if cursor.left() == 0 => Some(sizes),
-        _ => None,
-    }
+    let sizes = NvRead::take(&mut cursor).ok()?;
+    cursor.end().ok()?;
+    Some(sizes)
 }
 
 /// The parameters of a command with this code that has none, or a number or two, where the bytes spell them.

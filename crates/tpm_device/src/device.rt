@@ -81,12 +81,16 @@ impl Device {
         self.sessions.clear();
     }
 
-    // The checks by the grammar, and those before the authorization area. They are out of line, so that what they read
-    // is off the stack before the command is performed: 6,184 bytes by LLVM where they are not.
+    // The checks by the grammar, and those before the authorization area: what is read stands in the place of other
+    // areas, since it would be moved twice where it were answered. They are out of line, so that what they read is off
+    // the stack before the command is performed: 6,184 bytes by LLVM where they are not.
     #[inline(never)]
-    fn presented<'a>(&self, bytes: &'a [u8]) -> Result<Areas<'a>, u32>
-        ensures reads { IsRead (holds self.now) (presented_of (holds self.now) bytes.now) result }
-        ensures admitted { IfOk result IsAdmitted }
+    fn check_presented<'a>(&self, bytes: &'a [u8], areas: &mut Areas<'a>) -> Result<(), u32>
+        ensures reads { OnOk result
+            (IsRead (holds self.now) (presented_of (holds self.now) bytes.now) (Ok areas.new)) }
+        ensures refuses { IfErr result (λ code. presented_of (holds self.now) bytes.now ≡ Err code) }
+        ensures admitted { OnOk result (IsAdmitted areas.new) }
+        ensures few { OnOk result (length areas.new.handles ≤ 2) }
     {
         let headed = header(bytes).map_err(|refusal| refusal.code)?;
         let code = headed.code();
@@ -95,15 +99,15 @@ impl Device {
         let handled = headed.handles().map_err(|refusal| refusal.code)?;
         self.check_handles(handled.list())?;
         check_tag(code, tag)?;
-        match handled.areas() {
-            Ok(areas) => Ok(areas),
+        match handled.areas_into(areas) {
+            Ok(()) => Ok(()),
             Err(refusal) => Err(refusal.code),
         }
     }
 
     // As `acted`, of parameters that are decoded, whatever they are. It is out of line, so that their room is off the
-    // stack before the reply is written. With the decoder out of line too (`read_params`) the deepest stack is 9,656
-    // bytes by the toolchain's compiler, and was 13,552.
+    // stack before the reply is written. With the decoder out of line too (`read_params`) the deepest stack was 9,656
+    // bytes by the toolchain's compiler, in place of 13,552.
     #[inline(never)]
     fn acted_on_decoded(
         &mut self,
@@ -126,11 +130,11 @@ impl Device {
         }
     }
 
-    // As `acted`, of parameters that are none, or a number or two; and otherwise nothing is done: a TPM2_NV_Read takes
-    // 167 ns so, all in all. It is out of line, so that what it makes is off the stack before the longest parameters
-    // are decoded.
+    // As `acted`, of few parameters (`bare`); and otherwise nothing is done: a TPM2_NV_Read takes half a unit so
+    // (docs/SPEED.md). It is out of line, so that what it makes is off the stack before the longest parameters are
+    // decoded.
     #[inline(never)]
-    fn acted_on_numbers(
+    fn acted_on_few(
         &mut self,
         areas: &Areas<'_>,
         nonce: &[u8; 64],
@@ -145,6 +149,9 @@ impl Device {
             }) given) }
         ensures none { IfNone result (self.new ≡ self.old) }
     {
+        if matches!(areas.code(), CommandCode::PcrRead) {
+            return self.acted_on_selections(areas, nonce, body);
+        }
         match bare(areas.code(), areas.params()) {
             Some(params) => Some(self.act(areas.handles(), &params, nonce, body)),
             None => None,
@@ -167,7 +174,7 @@ impl Device {
               new = self.new;
             }) result }
     {
-        match self.acted_on_numbers(areas, nonce, body) {
+        match self.acted_on_few(areas, nonce, body) {
             Some(given) => given,
             None => self.acted_on_decoded(areas, nonce, body),
         }
@@ -196,10 +203,8 @@ impl Device {
     }
 
     // As `performed_by_action`, where the command has a function of its own; and otherwise nothing is done. These
-    // functions are without the room of the longest parameters and that of the longest reply. Those of the two commands
-    // on sessions took the deepest stack of `tpm_device_execute` from 8,952 bytes to 6,072 by LLVM, and from 16,040 to
-    // 13,552 by the toolchain's compiler; that of TPM2_PCR_Extend is for speed (docs/SPEED.md). Were all ways the arms
-    // of one `match`, the toolchain's compiler would join their frames, to 688 bytes more.
+    // functions are without the room of the longest parameters and that of the longest reply, each for what its file
+    // says. Were all ways the arms of one `match`, the toolchain's compiler would join their frames, to 688 bytes more.
     fn performed_alone(
         &mut self,
         areas: &Areas<'_>,
@@ -244,7 +249,8 @@ impl Device {
         ensures done { OnOk result (code_in out.new.items ≡ 0) }
         ensures none { OnErr result (out.new ≡ out.old) }
     {
-        let areas = self.presented(bytes)?;
+        let mut areas = Areas::default();
+        self.check_presented(bytes, &mut areas)?;
         let by = self.sessions.authorization(areas.auths())?;
         self.check_sessions(&areas, &by)?;
         match self.performed_alone(&areas, &by, nonce, out) {

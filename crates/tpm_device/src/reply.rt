@@ -24,7 +24,8 @@ use tpm_session::{Answered, Authority, Authorization};
 use tpm_types::AuthReply;
 
 impl Device {
-    // The session of a reply with these parameters to a command that is authorized so.
+    // The session of a reply with these parameters to a command that is authorized so. What the first handle names is
+    // found once more, since it lends a part of the device, which the action has changed.
     fn reply_session(
         &self,
         how: &Authorization<'_, '_>,

@@ -9,11 +9,10 @@ ghost use Rattle.tpm_device.specs.inner.Answers.{bare_bytes, reply_bytes};
 
 use arrayvec::ArrayVec;
 use std::slice;
-use tpm_buffer::{NO_SESSIONS, RSP_COMMAND, SESSIONS, put_reply_in};
-use tpm_commands::ReplyBody;
+use tpm_buffer::{SESSIONS, put_code, put_reply_in};
+use tpm_commands::{ErrorCode, ReplyBody};
 use tpm_session::password_reply;
 use tpm_types::AuthReply;
-use tpm_wire::response_code::BAD_TAG;
 use tpm_wire::{Wire, put_bytes};
 
 /// How many bytes no response exceeds: 10 of the header, 4 of a handle, 4 of parameterSize, 430 of the longest
@@ -37,20 +36,15 @@ pub(crate) fn put_reply_params(body: &ReplyBody, out: &mut ResponseBuffer)
 // ---- the response
 
 /// Adds to an empty buffer the response that is this code.
-#[tactic(auto, unfolding(tpm_buffer::specs::Responses::response, tpm_buffer::specs::Responses::response_front, tpm_buffer::specs::Responses::response_tag, tpm_buffer::specs::Responses::response_code, tpm_buffer::specs::Commands::command_size))]
 pub(crate) fn put_refusal(code: u32, out: &mut ResponseBuffer)
     requires some { 0 < code }
     requires empty { length out.old.items ≡ 0 }
     ensures { out.new.items ≡ answered (Err code) }
 {
-    let tag = if code == BAD_TAG {
-        RSP_COMMAND
-    } else {
-        NO_SESSIONS
-    };
-    tag.put(out);
-    10u32.put(out);
-    code.put(out);
+    match ErrorCode::from_number(code) {
+        Some(error) => put_code(error, out),
+        None => unreachable!(),
+    }
 }
 
 /// Adds to an empty buffer a reply without sessions. It is out of line, since the empty list takes 16 bytes of stack.

@@ -2,4 +2,3 @@ pub mod Authorized
 pub mod Keys
 pub mod Slots
 pub mod Asserted
-pub mod Spelled

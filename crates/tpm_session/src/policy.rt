@@ -3,7 +3,6 @@
 ghost use Rattle.std.specs.Prelude.{◌≡◌, ◌+◌, ◌≤◌, [], ◌++◌, length};
 ghost use Rattle.tpm_wire.specs.Spelling.{spelling};
 ghost use Rattle.tpm_types.specs.Tpml.{selections as selections_layout};
-ghost use Rattle.tpm_types.specs.Tpms.{selection as selection_layout};
 ghost use Rattle.tpm_model.specs.Policies.Assertion.{PcrAsserted, OrAsserted};
 ghost use Rattle.tpm_model.specs.Policies.{asserted, policy_of, policy_digest};
 ghost use Rattle.tpm_model.specs.Actions.{is_listed as listed};
@@ -16,8 +15,9 @@ use std::marker::Model;
 use tpm_hmac::hash;
 use tpm_types::{
     Alg, BANKS, CommandCode, DIGEST_BYTES, Digest, MOST_DIGESTS, OrDigests, Packed, SELECT_BYTES,
-    Selection, Selections,
+    Selections,
 };
+use tpm_wire::Wire;
 
 // How many parts the text of TPM2_PolicyOR has at most: zeros, the command's code, and the digests.
 const OR_PARTS: usize = MOST_DIGESTS + 2;
@@ -137,37 +137,13 @@ pub fn extend_policy(alg: Alg, assertion: &Assertion<'_>, old: &[u8]) -> Digest
     }
 }
 
-// How a selection lies in bytes, TPMS_PCR_SELECTION (Part 2, 10.6.2).
-#[tactic(auto, unfolding(tpm_types::specs::Tpms::selection, tpm_types::specs::Alg::hash))]
-fn selection_bytes(selection: &Selection) -> [u8; SELECTION_BYTES]
-    ensures value { result ≡ spelling selection_layout selection.now }
-    ensures len { length result ≡ 6 }
-{
-    let [high, low] = selection.hash.number().to_be_bytes();
-    let [first, second, third] = selection.select;
-    [high, low, SELECT_BYTES as u8, first, second, third]
-}
-
-// Adds the bytes at the end.
-fn add(out: &mut ArrayVec<u8, SELECTIONS_BYTES>, bytes: &[u8])
-    requires { length out.old.items + length bytes.now ≤ 22 }
-    ensures items { out.new.items ≡ out.old.items ++ bytes.now }
-    ensures len { length out.new.items ≡ length out.old.items + length bytes.now }
-{
-    let _ = out.try_extend_from_slice(bytes);
-}
-
 // How they lie in bytes, TPML_PCR_SELECTION (Part 2, 10.9.7), in the room of the longest.
-#[tactic(auto, unfolding(tpm_types::specs::Tpml::selections, tpm_wire::specs::Structures::counted))]
 fn selections_bytes(selections: &Selections) -> ArrayVec<u8, SELECTIONS_BYTES>
     ensures { result.items ≡ spelling selections_layout selections.now }
 {
-    let entries = selections.as_slice();
+    prove!(selections.len() <= SELECTIONS_BYTES);
     let mut bytes = ArrayVec::new();
-    add(&mut bytes, &(entries.len() as u32).to_be_bytes());
-    for entry in entries {
-        add(&mut bytes, &selection_bytes(entry));
-    }
+    selections.put(&mut bytes);
     bytes
 }
 

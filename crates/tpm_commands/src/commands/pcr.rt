@@ -28,8 +28,7 @@ pub fn read_pcr_extend(cursor: &mut Cursor<'_>, digests: &mut DigestValues) -> R
         (cursor.old.here.rest
         ≡ spelling pcr_extend (params.PcrExtend digests.new) ++ cursor.new.here.rest) }
 {
-    cursor.number(of_parameter(1));
-    digests.read(cursor)
+    read_only(cursor, digests)
 }
 
 // ---- TPM2_PCR_Event (22.3)

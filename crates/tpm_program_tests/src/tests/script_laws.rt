@@ -26,4 +26,5 @@ fn the_laws_return(_rt: HostRuntime) {
     tpm_device::no_counter_goes_back_over_lives();
     tpm_device::nv_memory_stays_fair();
     tpm_script::no_replay_in_a_script();
+    tpm_check::laws::allowed_where_done();
 }

@@ -12,6 +12,7 @@ left_size (Some bytes) = length bytes + 1
 abbrev pub invariant-loop-left : goal.invariant-loop-left
 invariant-loop-left l = record {
   number : l.number + left_size (option_map (λ b. b.now) l.left) ≤ length l.bytes + 1;
+  few : length l.found.items ≤ l.number;
   found : behind_these l.found.items (allowed_from (l.number + 1) (lines_left (option_map (λ b. b.now) l.left)))
       ≡ allowed_in l.bytes;
 }

@@ -1,4 +1,4 @@
-use Rattle.std.proofs.Common.{List, subst, sym, ◌∙◌}
+use Rattle.std.proofs.Common.{◌<◌, ◌^◌, List, length, subst, sym, ◌∙◌}
 use Rattle.std.proofs.lemmas.Result.{IfOk-weaker}
 use Rattle.tpm_vouched.specs.declared.allowed.AllowedDigest.{AllowedDigest}
 use Rattle.tpm_check.specs.inner.AllowedBoot.{AreAllOf}
@@ -7,9 +7,10 @@ use Rattle.tpm_check.proofs.allowed_boot.print_looked_up.Goals as goal
 pub returns-in_ok-found-in-Some-clause-ok : goal.returns-in_ok-found-in-Some-clause-ok
 returns-in_ok-found-in-Some-clause-ok g c =
     let allow = c.args.allow.now in
-    let read : AreAllOf allow c.in-Some.digests.items = rw c.in-Some.is at c.in_ok-digests.ensures in
+    let read : AreAllOf allow c.in-Some.digests.items × (length c.in-Some.digests.items < 2 ^ 32) =
+    rw c.in-Some.is at c.in_ok-digests.ensures in
     let listed = c.in_ok-list-in-Some.ensures ∙ c.as_slice.ensures.value in
-    let are = subst (λ (ds : List AllowedDigest). AreAllOf allow ds) (sym listed) read in
+    let are = subst (λ (ds : List AllowedDigest). AreAllOf allow ds) (sym listed) read.0 in
     let looked = c.in_ok-found-in-Some.ensures.ok in
     IfOk-weaker c.print_found.result _ _ (λ status prints.
     let printed = prints allow looked.0 are looked.2 in (

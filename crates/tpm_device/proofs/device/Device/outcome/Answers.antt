@@ -9,22 +9,24 @@ use Rattle.tpm_device.proofs.device.Device.outcome.Goals as goal
 
 pub performed_alone-requires : goal.performed_alone-requires
 performed_alone-requires c =
-    let by = sessions_permit (holds c.args.self.now) c.args.bytes.now c.in_ok-areas.areas c.in_ok-areas.ensures.reads (sym c.in_ok-check_sessions.ensures) in
+    let by = sessions_permit (holds c.args.self.now) c.args.bytes.now c.check_presented.new.areas c.in_ok-check_presented.ensures.reads
+    (sym c.in_ok-check_sessions.ensures) in
     record {
       authorized = rw (← c.auths.ensures) c.in_ok-by.ensures.found;
-      admitted = c.in_ok-areas.ensures.admitted;
+      admitted = c.in_ok-check_presented.ensures.admitted;
       evidence = (by.evidence, by.gives);
       empty = c.requires.empty;
     }
 
 pub performed_by_action-requires : goal.performed_by_action-requires
 performed_by_action-requires c =
-    let by = sessions_permit (holds c.args.self.now) c.args.bytes.now c.in_ok-areas.areas c.in_ok-areas.ensures.reads (sym c.in_ok-check_sessions.ensures) in
-    subst (λ (d : Device). MayBePerformed d c.in_ok-areas.areas c.in_ok-by.by c.performed_alone.new.out) (sym c.in-None.ensures.none.0)
-    (subst (λ (o : ArrayVec ℕ). MayBePerformed c.args.self.now c.in_ok-areas.areas c.in_ok-by.by o) (sym c.in-None.ensures.none.1)
+    let by = sessions_permit (holds c.args.self.now) c.args.bytes.now c.check_presented.new.areas c.in_ok-check_presented.ensures.reads
+    (sym c.in_ok-check_sessions.ensures) in
+    subst (λ (d : Device). MayBePerformed d c.check_presented.new.areas c.in_ok-by.by c.performed_alone.new.out) (sym c.in-None.ensures.none.0)
+    (subst (λ (o : ArrayVec ℕ). MayBePerformed c.args.self.now c.check_presented.new.areas c.in_ok-by.by o) (sym c.in-None.ensures.none.1)
     (record {
       authorized = rw (← c.auths.ensures) c.in_ok-by.ensures.found;
-      admitted = c.in_ok-areas.ensures.admitted;
+      admitted = c.in_ok-check_presented.ensures.admitted;
       evidence = (by.evidence, by.gives);
       empty = c.requires.empty;
     }))
@@ -34,8 +36,8 @@ returns-in-Some c =
     let p = holds c.args.self.now in
     let n = c.args.nonce.now in
     let did = c.in-Some.ensures.some in
-    let by = sessions_permit p c.args.bytes.now c.in_ok-areas.areas c.in_ok-areas.ensures.reads (sym c.in_ok-check_sessions.ensures) in
-    let refuses = outcome_refuses p c.args.bytes.now n c.in_ok-areas.areas c.in-Some.given by did.refuses in
+    let by = sessions_permit p c.args.bytes.now c.check_presented.new.areas c.in_ok-check_presented.ensures.reads (sym c.in_ok-check_sessions.ensures) in
+    let refuses = outcome_refuses p c.args.bytes.now n c.check_presented.new.areas c.in-Some.given by did.refuses in
     record {
       answer = λ o h st. rw by.is (did.answer by.evidence o h by.gives st);
       stands = λ o h st. rw by.is (did.stands by.evidence o h by.gives st);
@@ -50,11 +52,11 @@ pub returns-in-None : goal.returns-in-None
 returns-in-None c =
     let p = holds c.args.self.now in
     let n = c.args.nonce.now in
-    let did = from_begin c.in_ok-areas.areas c.performed_alone.new.self c.args.self.now n c.performed_alone.new.out c.args.out.now
+    let did = from_begin c.check_presented.new.areas c.performed_alone.new.self c.args.self.now n c.performed_alone.new.out c.args.out.now
     (record { result = c.performed_by_action.result; device = c.performed_by_action.new.self; out = c.performed_by_action.new.out })
     c.in-None.ensures.none.0 c.in-None.ensures.none.1 c.performed_by_action.ensures in
-    let by = sessions_permit p c.args.bytes.now c.in_ok-areas.areas c.in_ok-areas.ensures.reads (sym c.in_ok-check_sessions.ensures) in
-    let refuses = outcome_refuses p c.args.bytes.now n c.in_ok-areas.areas c.performed_by_action.result by did.refuses in
+    let by = sessions_permit p c.args.bytes.now c.check_presented.new.areas c.in_ok-check_presented.ensures.reads (sym c.in_ok-check_sessions.ensures) in
+    let refuses = outcome_refuses p c.args.bytes.now n c.check_presented.new.areas c.performed_by_action.result by did.refuses in
     record {
       answer = λ o h st. rw by.is (did.answer by.evidence o h by.gives st);
       stands = λ o h st. rw by.is (did.stands by.evidence o h by.gives st);
@@ -65,19 +67,19 @@ returns-in-None c =
       none = did.none;
     }
 
-pub returns-in_err-areas-clause-some : goal.returns-in_err-areas-clause-some
-returns-in_err-areas-clause-some c =
-    let code = c.in_err-areas.field-0.0 in
+pub returns-in_err-check_presented-clause-some : goal.returns-in_err-check_presented-clause-some
+returns-in_err-check_presented-clause-some c =
+    let code = c.in_err-check_presented.field-0.0 in
     let is : c.from_residual.result ≡ Err code = search rules in
-    rw is (some_code (holds c.args.self.now) c.args.bytes.now c.args.nonce.now code (rw c.in_err-areas.ensures.reads refl))
+    rw is (some_code (holds c.args.self.now) c.args.bytes.now c.args.nonce.now code (rw c.in_err-check_presented.ensures.refuses refl))
 
 pub returns-in_err-by : goal.returns-in_err-by
 returns-in_err-by c =
     let p = holds c.args.self.now in
     let code = c.in_err-by.field-0.0 in
     let is : c.from_residual-in_err-by.result ≡ Err code = search rules in
-    let refused = sessions_refuse p c.args.bytes.now c.in_ok-areas.areas code c.in_ok-areas.ensures.reads
-    (rw (← c.auths.ensures) (c.in_err-by.ensures.missing (claim_of p c.in_ok-areas.areas))) in
+    let refused = sessions_refuse p c.args.bytes.now c.check_presented.new.areas code c.in_ok-check_presented.ensures.reads
+    (rw (← c.auths.ensures) (c.in_err-by.ensures.missing (claim_of p c.check_presented.new.areas))) in
     record {
       answer = λ o h st. rw (is, refused) refl;
       stands = λ o h st. rw refused st;
@@ -93,7 +95,8 @@ returns-in_err-check_sessions c =
     let p = holds c.args.self.now in
     let code = c.in_err-check_sessions.field-0.0 in
     let is : c.from_residual-in_err-check_sessions.result ≡ Err code = search rules in
-    let refused = sessions_refuse p c.args.bytes.now c.in_ok-areas.areas code c.in_ok-areas.ensures.reads (sym c.in_err-check_sessions.ensures) in
+    let refused = sessions_refuse p c.args.bytes.now c.check_presented.new.areas code c.in_ok-check_presented.ensures.reads
+    (sym c.in_err-check_sessions.ensures) in
     record {
       answer = λ o h st. rw (is, refused) refl;
       stands = λ o h st. rw refused st;

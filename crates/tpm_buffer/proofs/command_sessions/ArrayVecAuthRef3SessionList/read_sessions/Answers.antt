@@ -6,12 +6,12 @@ use Rattle.tpm_wire.specs.Reading.{read}
 use Rattle.tpm_wire.specs.Buffers.{Place}
 use Rattle.tpm_wire.proofs.Loop.{at_place, goes_on, joined_push}
 use Rattle.tpm_types.specs.Tpms.{auth_command}
-use Rattle.tpm_buffer.proofs.command_sessions.take_sessions.Goals as goal
+use Rattle.tpm_buffer.proofs.command_sessions.ArrayVecAuthRef3SessionList.read_sessions.Goals as goal
 
-pub loop-auths-preserved : goal.loop-auths-preserved
-loop-auths-preserved c =
-    let items = c.loop-auths.auths.items in
-    let here = c.loop-auths.cursor.here in
+pub loop-self-preserved : goal.loop-self-preserved
+loop-self-preserved c =
+    let items = c.loop-self.self.items in
+    let here = c.loop-self.cursor.here in
     let x = c.in_ok-session.session in
     let g = c.take_session.new.cursor.here in
     let is =
@@ -24,7 +24,7 @@ loop-auths-preserved c =
       so_far =
           rw (c.push.ensures.items, len)
           (goes_on (λ before. read (of_session (1 + length before)) auth_command) true items 3 (length items) here g x _
-          (omega arith) more is c.loop-auths.invariant.so_far);
+          (omega arith) more is c.loop-self.invariant.so_far);
       few = rw c.push.ensures.items (omega (arith, len));
-      spelled = rw c.push.ensures.items (joined_push auth_command _ here.rest g.rest items x c.loop-auths.invariant.spelled text);
+      spelled = rw c.push.ensures.items (joined_push auth_command _ here.rest g.rest items x c.loop-self.invariant.spelled text);
     }
