@@ -94,7 +94,8 @@ ask_quotes() {
 }
 
 # ask_lists: of each log that has a list of lines a quote of what it extends, beside the list of its own digests, one in
-# which the first of SHA-256 is another, and one with a register more, as checks/logs/allowed.py has them.
+# which the first of SHA-256 is another, one with a register more, as checks/logs/allowed.py has them, one with three
+# more, of which the least by bank and number is told, and one without a digest.
 ask_lists() {
     mkdir "$room/lists" && begin_python || return
     for events in checks/logs/*.events; do
@@ -107,13 +108,80 @@ ask_lists() {
         { echo "# others" && awk '{ of = $1 " " $2 } of in first { next } { first[of] = $3 }
             $1 == "sha256" { print of, "00" substr($3, 3) " words # and a comment" }' "$list"; } >"$list.others"
         { cat "$list" && echo "sha384 13 $(zeros 48)"; } >"$list.more"
-        for asked in "$list" "$list.others" "$list.more"; do
+        { echo "sha384 20 $(zeros 48)" && echo "sha1 22 $(zeros 20)" && echo "sha1 20 $(zeros 20)" && cat "$list"; } \
+            >"$list.several"
+        printf '\n  # sha256 7\n' >"$list.none"
+        for asked in "$list" "$list.others" "$list.more" "$list.several" "$list.none"; do
             echo "attest $log.log $bytes 6e6f any sha256 $asked" >>"$table"
         done
         echo matches >>"$table.wanted"
         by_python checks/logs/allowed.py told "$events" "$list.others" | sort -s -n -k 5,5 | head -n 1 |
             cut -d ' ' -f 1-5 >>"$table.wanted"
-        echo "lacks sha384 13" >>"$table.wanted"
+        printf '%s\n' "lacks sha384 13" "lacks sha1 20" "nothing to compare" >>"$table.wanted"
+    done
+}
+
+# ask_spellings: of a log and a quote of what it extends lists whose first line is spelled otherwise, by words of awk,
+# and one with a long comment; with what tpmtool says of each.
+ask_spellings() {
+    log=checks/logs/secure_types list=$room/lists/secure_types number=10
+    bytes=$(by_python checks/quotes/made.py "$log.registers" 6e6f sha256:7 | xxd -p | tr -d '\n')
+    bytes_of "$bytes" >"$room/lists/quote"
+    while IFS= read -r change; do
+        number=$((number + 1))
+        awk "NR == 1 { $change } 1" "$list" >"$list.$number"
+    done <<'CHANGES'
+$3 = toupper($3)
+$1 = toupper($1)
+$0 = " " $0
+$0 = "\t" $0
+$1 = $1 " "
+$2 = $2 " "
+$0 = $1 "\t" $2 " " $3
+$0 = $1 " " $2 "\t" $3
+$0 = $1 " " $2 " " $3
+$0 = $1 " " $2 " " $3 " "
+$0 = $1 " " $2 " " $3 "\t"
+$0 = $1 " " $2 " " $3 "\t" $4
+$0 = $1 " " $2 " " $3 "\r"
+$0 = $0 "\r"
+$0 = $1 " " $2 " " $3 "# " $4
+$0 = $1 " " $2 " #" $3
+$2 = "0" $2
+$2 = "+" $2
+$2 = $2 + 17
+$2 = "\331\247"
+$3 = $3 "00"
+$3 = $3 "0"
+$3 = substr($3, 2)
+$3 = substr($3, 3)
+$3 = "0g" substr($3, 3)
+$3 = substr($3, 3) "\t\t"
+$0 = "#" $0
+$0 = "# \t" $0
+$0 = "# \r" $0
+$0 = "# \f" $0
+$0 = "# \v" $0
+$0 = "# \034" $0
+$0 = "# \302\205" $0
+$0 = "# \342\200\250" $0
+$0 = ""
+$0 = "  "
+$0 = "\t"
+$0 = "\r"
+$0 = "\f"
+$0 = "  # words\n\n" $0
+$0 = $0 "\n\nsha256 7\nsha1 24"
+CHANGES
+    { echo "#$(zeros 50000)" && cat "$list"; } >"$list.long"
+    for asked in "$list".[0-9]* "$list.long"; do
+        echo "attest $log.log $bytes 6e6f any sha256 $asked" >>"$table"
+        "$program" check "$log.log" --attest "$room/lists/quote" --nonce 6e6f --any-selection --allow "$asked" | awk '
+            /^line / { told = "no list at line " $2 + 0 }
+            /^no register$/ { told = "nothing to compare" }
+            /^unknown / && (at == "" || $5 < at) { at = $5; told = "unknown " $2 " " $3 " at " at }
+            /^allowed / && told == "" { told = "matches" }
+            END { print told }' >>"$table.wanted"
     done
 }
 
@@ -196,7 +264,7 @@ ROWS
     { cut -f 1 "$room/codes" && echo 1084; } | sed 's/^/code /' >>"$table"
     { cut -f 2 "$room/codes" && echo 0x1084; } >>"$table.wanted"
     ! [ -d checks/quotes ] || ask_quotes
-    ! command -v python3 >/dev/null 2>&1 || ask_lists
+    ! command -v python3 >/dev/null 2>&1 || { ask_lists && ask_spellings; }
 }
 
 # make_changed: a hundred thousand commands and replies of the table, each with a digit changed, some cut.
@@ -508,11 +576,13 @@ END
 
 # are_short: the verifiers have as many lines as their readers were promised.
 are_short() {
-    [ "$(wc -l <bindings/python/examples/verify.py)" -le 40 ] && [ "$(wc -l <bindings/go/examples/verify/main.go)" -le 60 ]
+    [ "$(wc -l <bindings/python/examples/verify.py)" -le 60 ] &&
+        [ "$(wc -l <bindings/go/examples/verify/main.go)" -le 60 ]
 }
 
 # make_signed: quotes with their signatures as TPMT_SIGNATURE and what is said of them, in $room/signed: those of
-# checks/quotes, and one of a made log by a key for each scheme.
+# checks/quotes, and one of a made log by a key for each scheme; of RSAPSS one with a salt as long as the digest, and
+# one with the greatest, since TPMs use either.
 make_signed() {
     mkdir -p "$room/signed" && : >"$room/signed/cases" || return 1
     while read -r quote log hash nonce selected; do
@@ -522,7 +592,7 @@ make_signed() {
     done <checks/quotes/cases.txt
     nonce=00112233445566778899aabbccddeeff selected=sha256:4,7,8
     python3 checks/quotes/made.py checks/logs/measured.registers $nonce $selected >"$room/signed/made.msg" || return 1
-    for scheme in rsassa rsapss ecdsa; do
+    for scheme in rsassa rsapss-digest rsapss-max ecdsa; do
         made=$room/signed/made-$scheme
         cp "$room/signed/made.msg" "$made.msg"
         case $scheme in
@@ -530,11 +600,13 @@ make_signed() {
         *) openssl genrsa -out "$made.key" 3072 2>/dev/null ;;
         esac || return 1
         padding=
-        [ $scheme != rsapss ] || padding='-sigopt rsa_padding_mode:pss -sigopt rsa_pss_saltlen:digest'
+        case $scheme in
+        rsapss-*) padding="-sigopt rsa_padding_mode:pss -sigopt rsa_pss_saltlen:${scheme#*-}" ;;
+        esac
         # shellcheck disable=SC2086
         openssl dgst -sha256 -sign "$made.key" $padding -out "$made.sig" "$made.msg" &&
             openssl pkey -in "$made.key" -pubout -out "$made.pem" &&
-            signed_case "made-$scheme" checks/logs/measured.log "$made" $scheme sha256 $nonce $selected || return 1
+            signed_case "made-$scheme" checks/logs/measured.log "$made" ${scheme%-*} sha256 $nonce $selected || return 1
     done
 }
 
@@ -578,8 +650,8 @@ verifies() {
 other_key() {
     case $1 in
     made-ecdsa) echo checks/quotes/ecc-sha256.pem ;;
-    made-rsapss) echo "$room/signed/made-rsassa.pem" ;;
-    *rsa*) echo "$room/signed/made-rsapss.pem" ;;
+    made-rsapss-*) echo "$room/signed/made-rsassa.pem" ;;
+    *rsa*) echo "$room/signed/made-rsapss-max.pem" ;;
     *) echo "$room/signed/made-ecdsa.pem" ;;
     esac
 }
@@ -609,9 +681,44 @@ is_not_fooled() {
     done <"$room/signed/cases"
 }
 
+# allowed_of LOG REGISTERS: the lines of `tpmtool check LOG --extends` of these registers, as `sha1:7+sha256:0,7`.
+allowed_of() {
+    "$program" check "$1" --extends | awk -v registers="$2" '
+        BEGIN {
+            count = split(registers, entries, "+")
+            for (i = 1; i <= count; i++) {
+                split(entries[i], halves, ":")
+                many = split(halves[2], numbers, ",")
+                for (j = 1; j <= many; j++) asked[halves[1] " " numbers[j]] = 1
+            }
+        }
+        ($1 " " $2) in asked'
+}
+
+# goes_by_list WORD..: beside a list of the log's own digests the program says of each quote what it says without one.
+# It believes nothing beside a list that lacks a digest, that has a line which is none, or that is empty.
+goes_by_list() {
+    : >"$room/empty"
+    while read -r quote log files nonce selected; do
+        said="$log $files.msg $room/signed/$quote.tpmt $files.pem $nonce $selected"
+        believes_nothing "$@" $said "$room/empty" && grep -q 'no digest' "$room/out" || return 1
+        allowed_of "$log" "$selected" >"$room/allowed"
+        # No log extends the registers that this quote selects.
+        [ "$quote" != not-measured ] || continue
+        tells "$room/true" "$@" $said && tells "$room/listed" "$@" $said "$room/allowed" &&
+            cmp "$room/true" "$room/listed" || return 1
+        awk 'NR == 1 { $3 = "00" substr($3, 3) } 1' "$room/allowed" >"$room/lacking"
+        first=$(head -n 1 "$room/allowed" | cut -d ' ' -f 1,2)
+        believes_nothing "$@" $said "$room/lacking" &&
+            grep -q "^not to be believed: unknown $first at [0-9]" "$room/out" || return 1
+        sed '2s/ /  /' "$room/allowed" >"$room/wrong"
+        believes_nothing "$@" $said "$room/wrong" && grep -q 'line 2 is no bank' "$room/out" || return 1
+    done <"$room/signed/cases"
+}
+
 # verified_by WORD..: the same of each quote, where they are made.
 verified_by() {
-    [ -s "$room/signed/cases" ] || make_signed && verifies "$@" && is_not_fooled "$@"
+    [ -s "$room/signed/cases" ] || make_signed && verifies "$@" && is_not_fooled "$@" && goes_by_list "$@"
 }
 
 # change_byte FILE AT: another byte there.
@@ -641,7 +748,7 @@ elif ! "$compiler" -O2 -Iinclude -o "$room/c_view" examples/view.c "$prefix/lib/
     ! make_table || ! make_changed || ! make_layout; then
     fail "the bindings" "the table was not made"
 else
-    holds "a verifier has at most 40 lines in Python and 60 in Go" are_short
+    holds "a verifier has at most 60 lines in Python and in Go" are_short
     if ! command -v python3 >/dev/null 2>&1; then
         skip "the binding for Python" "there is no python3"
     else

@@ -280,7 +280,7 @@ type Variable struct {
 
 // Variable is the one that the event's data are, all of them (UEFI_VARIABLE_DATA; PC Client Platform Firmware Profile,
 // "Event Types"), and false where they are none, or the type is another than EV_EFI_VARIABLE_DRIVER_CONFIG, _BOOT,
-// _BOOT2 and _AUTHORITY.
+// _BOOT2, _AUTHORITY, EV_EFI_SPDM_DEVICE_POLICY and EV_EFI_SPDM_DEVICE_AUTHORITY.
 func (e Event) Variable() (found Variable, is bool) {
 	var it C.struct_tpm_variable
 	if C.tpm_log_variable(C.uint32_t(e.Type), place(e.Data), size(e.Data), &it) != C.TPM_VARIABLE {
@@ -445,8 +445,8 @@ func CheckQuote(log, quote []byte, hash Hash) (Verdict, error) {
 // Expected is what Check compares a quote with: the nonce that was sent, the TPML_PCR_SELECTION of the registers that
 // have to be there, which Selection makes of a text, the qualified Name of the key, if it is not nil, and the hash of
 // the signature's scheme, or 0 for the one whose digests are as long as the quote's. Where AnyNonce is true, the quote
-// may be an old one; where AnySelection is true, it may be of any registers. Where Allow is not nil, the quote has to
-// select each register that it names, and each digest of the log there has to be on it.
+// may be an old one; where AnySelection is true, it may be of any registers. Where Allow is not nil, it has to have a
+// digest, the quote has to select each register that it names, and each digest of the log there has to be on it.
 type Expected struct {
 	Nonce, Selection       []byte
 	Signer                 []byte
@@ -457,8 +457,8 @@ type Expected struct {
 
 // Check compares a log with a TPMS_ATTEST of a quote, whose signature has to be verified elsewhere, or by Verify. The
 // quote is good where the verdict is Matches and the error nil. Otherwise the error is a *LogFault, a *Refusal of the
-// quote's bytes, ErrSized, ErrNoBank, ErrRequirement, or ErrNothing where the nonce has no byte, or the selection no
-// register.
+// quote's bytes, ErrSized, ErrNoBank, ErrRequirement, or ErrNothing where the nonce has no byte, the selection no
+// register, or the list of digests none.
 func Check(log, attest []byte, expected Expected) (Verdict, Selected, error) {
 	var fault C.struct_tpm_attest_fault
 	nonce, selection, hash := expected.Nonce, expected.Selection, expected.Hash
@@ -477,7 +477,8 @@ func Check(log, attest []byte, expected Expected) (Verdict, Selected, error) {
 	}
 	answer := C.tpm_log_check_attest(place(log), size(log), place(attest), size(attest), C.uint16_t(hash),
 		place(nonce), size(nonce), place(selection), size(selection), &fault)
-	isNothing := !expected.AnyNonce && len(nonce) == 0 || !expected.AnySelection && !selects(selection)
+	isNothing := !expected.AnyNonce && len(nonce) == 0 || !expected.AnySelection && !selects(selection) ||
+		expected.Allow != nil && len(expected.Allow) == 0
 	if isNothing && answer != C.TPM_ATTEST_NO_BANK && answer != C.TPM_ATTEST_REQUIREMENT {
 		return Differs, Selected{}, ErrNothing
 	}
@@ -488,7 +489,7 @@ func Check(log, attest []byte, expected Expected) (Verdict, Selected, error) {
 	if expected.Signer != nil && !bytes.Equal(signed.Signer, expected.Signer) {
 		return Signer, Selected{}, nil
 	}
-	if verdict == Matches {
+	if verdict == Matches && expected.Allow != nil {
 		verdict, lacks = expected.Allow.compared(log, signed)
 	}
 	return verdict, lacks, nil

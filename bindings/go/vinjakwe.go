@@ -51,7 +51,7 @@ var (
 	ErrNoCommand   = errors.New("no command has this number")
 	ErrNoBank      = errors.New("no bank has this hash")
 	ErrRequirement = errors.New("what is required is no TPML_PCR_SELECTION")
-	ErrNothing     = errors.New("the nonce has no byte, or what is required no register, and neither may be any")
+	ErrNothing     = errors.New("the nonce has no byte, what is required no register, or the list no digest")
 	ErrList        = errors.New("no list of registers, as sha256:0,1,2 or sha256:all")
 	ErrPEM         = errors.New("this is no PEM")
 	ErrDigest      = errors.New("a digest has another length than those of the policy's hash")

@@ -520,10 +520,79 @@ func TestAListOfDigests(t *testing.T) {
 			t.Errorf("%v %v %v", verdict, place, err)
 		}
 	}
-	zeros := strings.Repeat("00", 32)
-	for _, line := range []string{"sha256 4", "md5 4 00", "sha256 24 " + zeros, "sha256 4 " + zeros[1:] + "g"} {
-		if _, err := ParseAllowed(line); err == nil {
-			t.Error(line)
+	// The first by bank and register, whatever the list's order.
+	zeros := strings.Repeat("00", 48)
+	allowed, err := ParseAllowed("sha384 0 " + zeros + "\nsha256 9 " + zeros[:64] + "\nsha1 23 " + zeros[:40] +
+		"\nsha256 8 " + zeros[:64] + "\nsha1 3 " + zeros[:40])
+	if err != nil {
+		t.Fatal(err)
+	}
+	expected.Allow = allowed
+	verdict, place, err := Check(it.log, it.quote, expected)
+	if verdict != Lacks || place != (Selected{Bank: SHA1, Register: 3}) || err != nil {
+		t.Errorf("%v %v %v", verdict, place, err)
+	}
+}
+
+func TestAListWithoutADigest(t *testing.T) {
+	for _, it := range quotes(t) {
+		expected := Expected{Nonce: it.nonce, AnySelection: true, Hash: it.hash}
+		if verdict, _, err := Check(it.log, it.quote, expected); verdict != Matches || err != nil {
+			t.Error(verdict, err)
+		}
+		for _, text := range []string{"", "# none", "  \n#", "\n\n", "# sha256 0 " + strings.Repeat("00", 32)} {
+			allowed, err := ParseAllowed(text)
+			if allowed == nil || len(allowed) != 0 || err != nil {
+				t.Errorf("%q %v %v", text, allowed, err)
+			}
+			expected.Allow = allowed
+			if verdict, _, err := Check(it.log, it.quote, expected); verdict == Matches || !errors.Is(err, ErrNothing) {
+				t.Errorf("%q %v %v", text, verdict, err)
+			}
+		}
+		// What is given where a line is none allows nothing, whoever leaves the error alone.
+		expected.Allow, _ = ParseAllowed("sha256 4")
+		if verdict, _, err := Check(it.log, it.quote, expected); verdict == Matches || !errors.Is(err, ErrNothing) {
+			t.Error(verdict, err)
+		}
+	}
+}
+
+// As the proved reader takes it: checks/check.txt has the same lines.
+func TestHowAListIsSpelled(t *testing.T) {
+	line, zeros, many := "sha256 4 "+strings.Repeat("0a", 32), strings.Repeat("00", 32), strings.Repeat(" ", 100000)
+	replaced := func(old, new string) string { return strings.Replace(line, old, new, 1) }
+	rights := []string{
+		line, "sha256 4 " + strings.Repeat("0A", 32), line + "#", line + " ", line + " words", line + " \r", line + " \t",
+		line + "  # words", line + "\n", "\n\n" + line, "   \n" + line, "  # words\n" + line, "#" + many + "\n" + line,
+		line + many, "# \x85\xff\n" + line,
+	}
+	for _, between := range []string{"\f", "\v", "\r", "\x1c", "\x1d", "\x1e", "\x85", "\u0085", "\u2028", "\t"} {
+		rights = append(rights, "# words"+between+line+"\n"+line)
+	}
+	for _, text := range rights {
+		allowed, err := ParseAllowed(text)
+		if err != nil || len(allowed) != 1 {
+			t.Errorf("%.80q %v %v", text, allowed, err)
+			continue
+		}
+		it := allowed[0]
+		for i, found := range it.digest {
+			if it.pcr != 4 || Hash(it.hash) != SHA256 || found != 10 && i < 32 || found != 0 && i >= 32 {
+				t.Errorf("%.80q %v", text, it)
+			}
+		}
+	}
+	for _, text := range []string{
+		"sha256 4", "md5 4 00", "sha256 24 " + zeros, "sha256 4 " + zeros[1:] + "g", "sha256 4 " + zeros[2:], line + "0",
+		line + "00", " " + line, replaced(" ", "  "), replaced(" 4 ", " 4  "), strings.ReplaceAll(line, " ", "\t"),
+		line + "\t", line + "\r", "\r", "\t", "\f", replaced("4", "04"), replaced("4", "+4"), replaced("4", "-4"),
+		replaced("4", "0x4"), replaced("4", "\u0664"), replaced("4", "100"), replaced("0a", "\u0660a"), strings.ToUpper(line),
+		"sha512 4 " + zeros + zeros, replaced(" 0a", " #0a"), line + "\x00", "\ufeff" + line,
+	} {
+		_, err := ParseAllowed("# a list\n" + line + "\n" + text + "\nneither")
+		if err == nil || err.Error() != "line 3 is no bank, register and digest, as sha256 4 DIGEST" {
+			t.Errorf("%q %v", text, err)
 		}
 	}
 }

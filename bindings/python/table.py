@@ -180,13 +180,16 @@ def said(verdict):
 def attest(log, quote, nonce, require, hash, list=None):
     nonce = vinjakwe.ANY_NONCE if nonce == "any" else unhex(nonce)
     require = vinjakwe.ANY_SELECTION if require == "any" else unhex(require)
-    allow = list and whole(list).decode()
     try:
-        yield said(vinjakwe.check(log, unhex(quote), nonce, require, hash, allow=allow))
+        yield said(vinjakwe.check(log, unhex(quote), nonce, require, hash, allow=list and whole(list)))
     except (Refusal, LogFault):
         raise
     except ValueError as fault:
-        yield "nothing to compare" if "ANY_" in str(fault) else "requirement refused"
+        told = str(fault)
+        if told.startswith("allow: line "):
+            yield f"no list at {told.removeprefix('allow: ').partition(' is no ')[0]}"
+        else:
+            yield "requirement refused" if told.startswith("require: refused") else "nothing to compare"
 
 
 def sealed(caller, command, first, second, auth, nonce, keep):

@@ -3,6 +3,7 @@ package main
 import (
 	"errors"
 	"fmt"
+	"strings"
 
 	"vinjakwe"
 )
@@ -19,7 +20,9 @@ func attest(words []string) {
 	if len(words) > 6 && words[6] != "" {
 		var err error
 		if expected.Allow, err = vinjakwe.ParseAllowed(string(read(words[6]))); err != nil {
-			panic(err)
+			line, _, _ := strings.Cut(err.Error(), " is no ")
+			fmt.Fprintln(out, "no list at", line)
+			return
 		}
 	}
 	verdict, lacks, err := vinjakwe.Check(read(words[1]), unhex(words[2]), expected)

@@ -1,5 +1,6 @@
-"""verify.py LOG QUOTE SIGNATURE KEY NONCE REGISTERS: what booted, where a quote by this key vouches for it; status 0
-where each bank proves whether Secure Boot was on. SIGNATURE is as `tpm2_quote -s` writes it, and KEY in PEM."""
+"""verify.py LOG QUOTE SIGNATURE KEY NONCE REGISTERS [ALLOW]: what booted, where a quote by this key vouches for it;
+status 0 where each bank proves whether Secure Boot was on. SIGNATURE is as `tpm2_quote -s` writes it, KEY in PEM, and
+ALLOW has the lines of `tpmtool check LOG --extends`: no other digest is believed in the registers that it names."""
 import json
 import sys
 
@@ -26,10 +27,17 @@ def told(log, attest, bank, quoted):
             yield f"loader 8 {it.digests[bank].hex() if text is None else json.dumps(text)}"
 
 
-def main(log, quote, signature, key, nonce, registers):
-    log, quote, signature, key = (open(name, "rb").read() for name in (log, quote, signature, key))
+def whole(name):
+    """The bytes of a file, also of a list: a text that `open` reads has line ends of its own."""
+    with open(name, "rb") as file:
+        return file.read()
+
+
+def main(log, quote, signature, key, nonce, registers, allow=None):
+    log, quote, signature, key = map(whole, (log, quote, signature, key))
+    allow = None if allow is None else whole(allow)
     try:
-        attest = vinjakwe.verify(log, quote, signature, key, bytes.fromhex(nonce), registers)
+        attest = vinjakwe.verify(log, quote, signature, key, bytes.fromhex(nonce), registers, allow=allow)
     except ValueError as fault:
         return f"not to be believed: {fault}"
     lines = [line for bank, quoted in attest.selections for line in (f"bank {bank}", *told(log, attest, bank, quoted))]

@@ -394,7 +394,6 @@ class Quotes(unittest.TestCase):
                  if register < 8]
         allowed = "# a boot\n\n" + "\n".join(lines)
         self.assertEqual(v.check(log, quote, nonce, selected, hash, allow=allowed), (v.Kind.MATCHES, None, None, None))
-        self.assertTrue(v.check(log, quote, nonce, selected, hash, allow="# none"))
         for register, digest, at in found[:9]:
             other = allowed.replace(digest.hex(), bytes(32).hex())
             verdict = v.check(log, quote, nonce, selected, hash, allow=other)
@@ -402,8 +401,41 @@ class Quotes(unittest.TestCase):
         lacking = v.check(log, quote, nonce, selected, hash, allow=f"sha256 9 {bytes(32).hex()}")
         self.assertEqual(lacking[:3], (v.Kind.LACKS, "sha256", 9))
         self.assertIs(v.check(log, quote, b"1", selected, hash, allow=other).kind, v.Kind.NONCE)
-        for line in "sha256 4", "md5 4 00", "sha256 24 " + "00" * 32, "sha256 4 " + "00" * 31, "sha256 4 " + "0g" * 32:
-            self.assertRaises(ValueError, v.check, log, quote, nonce, selected, hash, allow=line)
+        # The first by bank and register, whatever the list's order.
+        lacking = v.check(log, quote, nonce, selected, hash, allow="\n".join(
+            f"{bank} {register} {bytes(size).hex()}" for bank, register, size in (
+                ("sha384", 0, 48), ("sha256", 9, 32), ("sha1", 23, 20), ("sha256", 8, 32), ("sha1", 3, 20))))
+        self.assertEqual(lacking[:3], (v.Kind.LACKS, "sha1", 3))
+
+    def test_a_list_without_a_digest(self):
+        for words in quotes():
+            for given in "", b"", "# none", "  \n#", bytearray(b"\n\n"), f"# sha256 0 {'00' * 32}":
+                self.assertRaisesRegex(ValueError, "allow: it has no digest", v.check, *words, allow=given)
+            self.assertTrue(v.check(*words, allow=None))
+        for given in 5, True, [], object():
+            self.assertRaises(TypeError, v.check, *words, allow=given)
+
+    def test_how_a_list_is_spelled(self):
+        """As the proved reader takes it: checks/check.txt has the same lines."""
+        line = "sha256 4 " + "0a" * 32
+        same = (line, "sha256 4 " + "0A" * 32, line + "#", line + " ", line + " words", line + " \r", line + " \t",
+                line + "  # words", line + "\n", "\n\n" + line, "   \n" + line, "  # words\n" + line,
+                f"#{' ' * 100_000}\n" + line, line + " " * 100_000, "# \x85\n" + line, "# \udc80\n" + line)
+        for text in same:
+            for given in text, text.encode("utf-8", "surrogatepass"):
+                self.assertEqual([(it.hash, it.pcr, bytes(it.digest)) for it in v._allowed(given)],
+                                 [(0x000B, 4, b"\x0a" * 32 + bytes(16))], text[:80])
+        for between in "\f", "\v", "\r", "\x1c", "\x1d", "\x1e", "\x85", "\u2028", "\u2029", "\t", " ":
+            self.assertEqual(len(v._allowed(f"# words{between}{line}\n{line}")), 1)
+        wrong = ("sha256 4", "md5 4 00", "sha256 24 " + "00" * 32, "sha256 4 " + "00" * 31, "sha256 4 " + "0g" * 32,
+                 " " + line, line.replace(" ", "  ", 1), line.replace(" 4 ", " 4  "), line.replace(" ", "\t"),
+                 line + "\t", line + "\r", "\r", "\t", "\f", line.replace("4", "04"), line.replace("4", "+4"),
+                 line.replace("4", "\u0664"), line.replace("0a", "\u0660a"), line + "00", line + "0",
+                 line[:-2] + "\t\t", line[:9] + "0a " * 32, line.upper(), "sha512 4 " + "00" * 64,
+                 line.replace(" 0a", " #0a", 1), line + "\0", "\ufeff" + line, line.replace("4", "100"))
+        for text in wrong:
+            with self.assertRaisesRegex(ValueError, "^allow: line 3 is no bank, register and digest", msg=text):
+                v._allowed(f"# a list\n{line}\n{text}\nneither")
 
     def test_a_size_before_a_quote(self):
         for log, quote, nonce, selected, hash in quotes():
@@ -476,6 +508,7 @@ class Verified(unittest.TestCase):
             self.assertIs(kind(require="sha384:9"), v.Kind.LACKS)
             self.assertIs(kind(signer=b"1"), v.Kind.SIGNER)
             self.assertIs(kind(allow="sha384 9 " + "00" * 48), v.Kind.LACKS)
+            self.assertRaises(ValueError, v.verify, log, quote, spelled, key, nonce, selected, allow="# none")
             self.assertRaises(v.Refusal, v.verify, log, quote, b"", key, nonce, selected)
             self.assertRaises(ValueError, v.verify, log, quote, spelled, b"key", nonce, selected)
 

@@ -12,6 +12,7 @@ import enum
 import importlib
 import json
 import os
+import re
 import uuid
 from contextlib import contextmanager
 from ctypes import POINTER, Structure, byref, c_size_t, c_uint8, c_uint16, c_uint32, c_uint64, c_void_p
@@ -685,7 +686,7 @@ class Variable(NamedTuple):
 def variable(event: Event) -> Variable | None:
     """The variable that the data of a record are, all of them (UEFI_VARIABLE_DATA; PC Client Platform Firmware Profile,
     "Event Types"), or None where they are none, or the type is another than EV_EFI_VARIABLE_DRIVER_CONFIG, _BOOT,
-    _BOOT2 and _AUTHORITY."""
+    _BOOT2, _AUTHORITY, EV_EFI_SPDM_DEVICE_POLICY and EV_EFI_SPDM_DEVICE_AUTHORITY."""
     view = _Variable()
     if _lend(_library.tpm_log_variable, event.type, (event.data,), byref(view)) != _VARIABLE:
         return None
@@ -1300,17 +1301,18 @@ ANY_SELECTION: Final = _Unasked.SELECTION
 
 def check(log: Log, attest: Buffer, nonce: Buffer | Literal[_Unasked.NONCE],
           require: Selected | Literal[_Unasked.SELECTION], hash: str | None = None,
-          signer: Buffer | None = None, allow: str | None = None) -> Verdict:
+          signer: Buffer | None = None, allow: str | Buffer | None = None) -> Verdict:
     """Compares a log with a TPMS_ATTEST of a quote, whose signature has to be verified elsewhere or by `verify`: its
     nonce, the registers that are required, and the digest under this hash, or else under the one whose digests are as
     long. The log is given by its bytes, its path, or a file that is read to its end; `nonce` is the one that was sent,
     or ANY_NONCE; `require` is a TPML_PCR_SELECTION, a list as `sha256:0,7`, or ANY_SELECTION; `signer` is the qualified
     Name of the key, where it is to be compared; `allow` is a list of digests, as the lines of `tpmtool check LOG
     --extends`: the quote has to select each register that it names, and each digest of the log there has to be on it.
-    Raises LogFault, and Refusal for bytes that spell no quote; ValueError where `require` is no selection or has no
-    register, the nonce has no byte, or `allow` is no list."""
+    Read the file of a list as bytes: as text `open` ends lines elsewhere, too. Raises LogFault, and Refusal for bytes
+    that spell no quote; ValueError where `require` is no selection or has no register, the nonce has no byte, or
+    `allow` is no list or has no digest."""
     fault, whole = _AttestFault(), _whole(log)
-    allowed = _allowed(allow or "")
+    allowed = None if allow is None else _allowed(allow)
     listed = b"" if require is ANY_SELECTION else _selected(require)
     sent = _nonce_of(attest) if nonce is ANY_NONCE else nonce
     name = _hash_of(attest) if hash is None else hash
@@ -1321,27 +1323,36 @@ def check(log: Log, attest: Buffer, nonce: Buffer | Literal[_Unasked.NONCE],
         raise ValueError("nonce: it has no byte; ANY_NONCE is for a quote with any")
     if require is not ANY_SELECTION and not _selects(listed):
         raise ValueError("require: it has no register; ANY_SELECTION is for a quote of any")
+    if allowed is not None and not len(allowed):
+        raise ValueError("allow: it has no digest; None is for a log with any")
     with _named(attest):
         _raise_fault(answer, fault.at, fault.code)
     if signer is not None and decode_attest(attest).signer != bytes(signer):
         return Verdict(Kind.SIGNER)
     lacks = Kind(answer) is Kind.LACKS
     verdict = Verdict(Kind(answer), _HASH_NAMES[fault.hash] if lacks else None, fault.pcr if lacks else None)
-    return _compared(whole, attest, allowed) if verdict and len(allowed) else verdict
+    return verdict if allowed is None or not verdict else _compared(whole, attest, allowed)
 
 
-def _allowed(text: str) -> ctypes.Array[_AllowedDigest]:
-    """The digests of a list: of each line its bank, its register and the digest, and behind these and behind `#` any
-    words."""
+# A bank, a register without a zero before it, and a digest, with one space between them; behind another any words.
+_ALLOWED_LINE = re.compile(rb"(sha1|sha256|sha384) (\d|1\d|2[0-3]) ([0-9a-fA-F]+)(?: .*)?")
+
+
+def _allowed(given: str | Buffer) -> ctypes.Array[_AllowedDigest]:
+    """The digests of a list, as tpmtool reads it: a line ends at a line feed alone, and `#` begins a comment. Where
+    nothing but spaces stands before the comment, the line says nothing."""
     found: list[_AllowedDigest] = []
-    for number, line in enumerate(text.splitlines(), 1):
-        words = line.partition("#")[0].split()
-        if words and (len(words) < 3 or words[0] not in HASHES or not words[1].isdecimal() or int(words[1]) > 23
-                      or len(words[2]) != 2 * _DIGESTS[words[0]][1]):
+    text = given.encode("utf-8", "surrogatepass") if isinstance(given, str) else memoryview(given).tobytes()
+    for number, line in enumerate(text.split(b"\n"), 1):
+        said = line.partition(b"#")[0]
+        if not said.strip(b" "):
+            continue
+        words = _ALLOWED_LINE.fullmatch(said)
+        bank = words[1].decode("ascii") if words else ""
+        if not words or len(words[3]) != 2 * _DIGESTS[bank][1]:
             raise ValueError(f"allow: line {number} is no bank, register and digest, as sha256 4 DIGEST")
-        if words:
-            digest = bytes.fromhex(words[2]).ljust(48, b"\0")
-            found.append(_AllowedDigest(int(words[1]), HASHES[words[0]], (c_uint8 * 48)(*digest)))
+        digest = bytes.fromhex(words[3].decode("ascii")).ljust(48, b"\0")
+        found.append(_AllowedDigest(int(words[2]), HASHES[bank], (c_uint8 * 48)(*digest)))
     return (_AllowedDigest * len(found))(*found)
 
 
@@ -1391,7 +1402,7 @@ class Mismatch(ValueError):
 
 def verify(log: Log, attest: Buffer, signature: Buffer, key: Any, nonce: Buffer | Literal[_Unasked.NONCE],
            require: Selected | Literal[_Unasked.SELECTION], signer: Buffer | None = None,
-           allow: str | None = None) -> Attest:
+           allow: str | Buffer | None = None) -> Attest:
     """What a quote says that is to be believed: its signature, a TPMT_SIGNATURE, is by this key, one of the package
     `cryptography` or its PEM, and `check` by the signature's hash is true. Raises Mismatch where it isn't, and what
     `check` and `decode_signature` raise."""

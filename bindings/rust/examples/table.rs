@@ -267,10 +267,13 @@ fn attest(out: &mut impl Write, words: &[&str]) -> std::io::Result<()> {
     let nonce = if words[3] == "any" { Nonce::Any } else { Nonce::Is(&nonce) };
     let required = if words[4] == "any" { Required::Any } else { Required::Registers(&required) };
     let mut expected = Expected::new(nonce, required, bank(words[5]));
-    let list = if words[6].is_empty() { String::new() } else { std::fs::read_to_string(words[6])? };
-    let allowed: Result<Vec<_>, usize> = allowed_digests(&list).collect();
-    let allowed = allowed.expect("a list of digests");
-    expected.allow = Some(&allowed);
+    let list = if words[6].is_empty() { None } else { Some(std::fs::read_to_string(words[6])?) };
+    let allowed: Result<Option<Vec<_>>, usize> = list.map(|it| allowed_digests(&it).collect()).transpose();
+    let allowed = match allowed {
+        Ok(allowed) => allowed,
+        Err(line) => return writeln!(out, "no list at line {line}"),
+    };
+    expected.allow = allowed.as_deref();
     match check(&std::fs::read(words[1])?, &unhex(words[2]), &expected) {
         Ok(verdict) => writeln!(out, "{verdict}"),
         Err(Fault::Nothing) => writeln!(out, "nothing to compare"),

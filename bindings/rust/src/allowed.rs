@@ -23,16 +23,19 @@ const _: () = assert!(
 );
 
 /// The digests of a list, as the lines of `tpmtool check LOG --extends`: of each line its bank, its register and the
-/// digest, as `sha256 4 DIGEST`, and behind these and behind `#` any words. It is the number of a line that is none.
+/// digest, as `sha256 4 DIGEST`, with one space between them. Behind another space stand any words, and behind `#` a
+/// comment. A line with nothing but spaces before it says nothing, and a line feed alone ends a line. It is the number
+/// of a line that is none.
 pub fn allowed_digests(text: &str) -> impl Iterator<Item = Result<AllowedDigest, usize>> + '_ {
-    let lines = text.lines().map(|line| line.split('#').next().unwrap_or("")).zip(1..);
-    lines.filter(|(line, _)| !line.trim().is_empty()).map(|(line, number)| entry(line).ok_or(number))
+    let lines = text.split('\n').map(|line| line.split('#').next().unwrap_or("")).zip(1..);
+    lines.filter(|(said, _)| said.bytes().any(|it| it != b' ')).map(|(said, number)| entry(said).ok_or(number))
 }
 
-fn entry(line: &str) -> Option<AllowedDigest> {
-    let mut words = line.split_ascii_whitespace();
+/// What stands before a comment.
+fn entry(said: &str) -> Option<AllowedDigest> {
+    let mut words = said.split(' ');
     let bank = words.next().and_then(|name| Bank::ALL.into_iter().find(|it| it.name() == name))?;
-    let register = words.next()?.parse().ok().filter(|it| *it < 24)?;
+    let register = register(words.next()?)?;
     let (digits, mut digest) = (words.next()?.as_bytes(), [0; 48]);
     if digits.len() != 2 * bank.digest_bytes() {
         return None;
@@ -42,6 +45,12 @@ fn entry(line: &str) -> Option<AllowedDigest> {
         *byte = (16 * value(0)? + value(1)?) as u8;
     }
     Some(AllowedDigest { register, bank, digest })
+}
+
+/// The register of a number that has no sign and no zero before it.
+fn register(word: &str) -> Option<u32> {
+    let number = word.parse().ok().filter(|it| *it < 24)?;
+    (word.len() == if number < 10 { 1 } else { 2 }).then_some(number)
 }
 
 /// Whether a list names the register that a record extends in the bank of this digest, and doesn't have the digest for
@@ -55,16 +64,18 @@ fn is_unknown(list: &[AllowedDigest], event: &Event, hash: u16, digest: &[u8]) -
     said == c::TPM_NOT_ALLOWED
 }
 
-/// What is said of a quote that matches the log: whether it selects each register of the list, and whether the list has
-/// each digest by which the log extends it.
+/// What is said of a quote that matches the log: whether it selects each register of the list, of which the least by
+/// its bank and its number is told otherwise, and whether the list has each digest by which the log extends it.
 pub(crate) fn compared(list: &[AllowedDigest], log: &[u8], attest: &Attest) -> Result<Verdict, Fault> {
-    for it in list {
+    let is_selected = |it: &AllowedDigest| {
         let mut selected = attest.selections().filter(|(bank, _)| *bank == it.bank);
-        if !selected.any(|(_, mut registers)| registers.any(|register| register == it.register as usize)) {
-            return Ok(Verdict::Lacks(it.bank, it.register));
-        }
+        selected.any(|(_, mut registers)| registers.any(|register| register == it.register as usize))
+    };
+    let lacking = list.iter().filter(|it| !is_selected(it)).min_by_key(|it| (it.bank as u16, it.register));
+    if let Some(it) = lacking {
+        return Ok(Verdict::Lacks(it.bank, it.register));
     }
-    for event in events(log).take_while(|_| !list.is_empty()) {
+    for event in events(log) {
         let event = event?;
         for digest in event.digests.iter().filter(|it| is_unknown(list, &event, it.hash, it.bytes)) {
             let bank = Bank::from_number(digest.hash).ok_or(Fault::NoBank)?;

@@ -113,7 +113,7 @@ pub enum Fault {
     Sized,
     /// What is required is no TPML_PCR_SELECTION.
     Requirement(Refusal),
-    /// The nonce has no byte, or what is required no register, and neither is to be any.
+    /// The nonce has no byte, or what is required no register, and neither is to be any; or the list has no digest.
     Nothing,
     /// The call does not apply to what the session has done so far, or to these bytes.
     Session,
@@ -135,7 +135,9 @@ impl fmt::Display for Fault {
             Fault::Length => f.write_str("the room or a value has another length than is wanted"),
             Fault::NoBank => f.write_str("no bank has this hash"),
             Fault::Requirement(it) => write!(f, "requirement {it}"),
-            Fault::Nothing => f.write_str("the nonce has no byte, or what is required no register"),
+            Fault::Nothing => {
+                f.write_str("the nonce has no byte, what is required no register, or the list no digest")
+            }
             Fault::Session => f.write_str("the session cannot do this"),
             Fault::Broken => f.write_str("no buffer has the size that was stated"),
         }

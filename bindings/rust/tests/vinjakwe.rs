@@ -2,9 +2,9 @@
 use std::fmt::Write;
 use std::fs;
 use vinjakwe::{
-    allowed_digests, changes_nv, check, check_quote, check_version, events, replay, secure_boot, Attest, Bank, CodeName,
-    Content, Device, Event, Expected, Fault, Held, LogFault, MeasuredPart, Nonce, Policy, Refusal, Replay, Required,
-    Room, Selection, Signature, Verdict, BUFFER_BYTES, DEVICE_KEPT_BYTES, NONCE_BYTES,
+    allowed_digests, changes_nv, check, check_quote, check_version, events, replay, secure_boot, AllowedDigest, Attest,
+    Bank, CodeName, Content, Device, Event, Expected, Fault, Held, LogFault, MeasuredPart, Nonce, Policy, Refusal,
+    Replay, Required, Room, Selection, Signature, Verdict, BUFFER_BYTES, DEVICE_KEPT_BYTES, NONCE_BYTES,
 };
 
 fn read(name: &str) -> Vec<u8> {
@@ -220,8 +220,55 @@ fn a_list_of_digests() {
     let unknown = Verdict::Unknown(Bank::Sha256, records[0].register, records[0].at);
     assert_eq!(said(&lines.replace(&digest(0), &zeros)), unknown);
     assert_eq!(said(&format!("sha256 9 {zeros}")), Verdict::Lacks(Bank::Sha256, 9));
-    for line in ["sha256 4", "md5 4 00", "sha256 4 0g", &format!("sha256 24 {zeros}"), &format!("sha256 4 {zeros}0")] {
-        assert_eq!(allowed_digests(&format!("# one\n{line}")).collect::<Vec<_>>(), [Err(2)]);
+    // The first by bank and register, whatever the list's order.
+    let (short, long) = (&zeros[..40], "0".repeat(96));
+    let lines = format!("sha384 0 {long}\nsha256 9 {zeros}\nsha1 23 {short}\nsha256 8 {zeros}\nsha1 3 {short}");
+    assert_eq!(said(&lines), Verdict::Lacks(Bank::Sha1, 3));
+}
+
+#[test]
+fn a_list_without_a_digest() {
+    let (log, quote) = (read("quotes/17-ovmf-secureboot.log"), read("quotes/ecc-sha256.msg"));
+    let expected = Expected::new(Nonce::Any, Required::Any, Bank::Sha256);
+    assert_eq!(check(&log, &quote, &expected), Ok(Verdict::Matches));
+    for text in ["", "# none", "  \n#", "\n\n", &format!("# sha256 0 {}", "0".repeat(64))] {
+        assert_eq!(allowed_digests(text).count(), 0);
+        assert_eq!(check(&log, &quote, &Expected { allow: Some(&[]), ..expected }), Err(Fault::Nothing));
+    }
+}
+
+// As the proved reader takes it: checks/check.txt has the same lines.
+#[test]
+fn how_a_list_is_spelled() {
+    let line = &format!("sha256 4 {}", "0a".repeat(32));
+    let mut digest = [0; 48];
+    digest[..32].fill(10);
+    let wanted = AllowedDigest { register: 4, bank: Bank::Sha256, digest };
+    let many = " ".repeat(100_000);
+    for text in [
+        line.clone(), format!("sha256 4 {}", "0A".repeat(32)), format!("{line}#"), format!("{line} "),
+        format!("{line} words"), format!("{line} \r"), format!("{line} \t"), format!("{line}  # words"),
+        format!("{line}\n"), format!("\n\n{line}"), format!("   \n{line}"), format!("  # words\n{line}"),
+        format!("#{many}\n{line}"), format!("{line}{many}"),
+    ] {
+        assert_eq!(allowed_digests(&text).collect::<Vec<_>>(), [Ok(wanted)]);
+    }
+    for between in ['\x0c', '\x0b', '\r', '\x1c', '\x1d', '\x1e', '\u{85}', '\u{2028}', '\u{2029}', '\t', ' '] {
+        let text = format!("# words{between}{line}\n{line}");
+        assert_eq!(allowed_digests(&text).collect::<Vec<_>>(), [Ok(wanted)]);
+    }
+    let zeros = "0".repeat(64);
+    for text in [
+        "sha256 4".into(), "md5 4 00".into(), "sha256 4 0g".into(), format!("sha256 24 {zeros}"),
+        format!("sha256 4 {}g", &zeros[1..]), format!("sha256 4 {}", &zeros[2..]), format!("{line}0"),
+        format!("{line}00"), format!(" {line}"), line.replacen(' ', "  ", 1), line.replace(" 4 ", " 4  "),
+        line.replace(' ', "\t"), format!("{line}\t"), format!("{line}\r"), "\r".into(), "\t".into(), "\x0c".into(),
+        line.replace('4', "04"), line.replace('4', "+4"), line.replace('4', "-4"), line.replace('4', "\u{664}"),
+        line.replace('4', "100"), line.replacen("0a", "\u{660}a", 1), line.to_uppercase(),
+        format!("sha512 4 {zeros}{zeros}"), line.replace(" 0a", " #0a"), format!("{line}\0"), format!("\u{feff}{line}"),
+    ] {
+        let read: Vec<_> = allowed_digests(&format!("# a list\n{line}\n{text}")).collect();
+        assert_eq!(read, [Ok(wanted), Err(3)], "{text}");
     }
 }
 

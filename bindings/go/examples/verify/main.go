@@ -1,13 +1,12 @@
 // Command verify says what booted on a machine, where a quote by this key vouches for it: verify LOG QUOTE SIGNATURE
-// KEY NONCE REGISTERS. The signature is as `tpm2_quote -s` writes it, and the key in PEM. The status is 0 where each
-// bank proves whether Secure Boot was on.
+// KEY NONCE REGISTERS [ALLOW]. The signature is as `tpm2_quote -s` writes it, the key in PEM, and ALLOW as the lines of
+// `tpmtool check LOG --extends`. The status is 0 where each bank proves whether Secure Boot was on.
 package main
 
 import (
 	"encoding/hex"
 	"fmt"
 	"os"
-
 	"vinjakwe"
 )
 
@@ -47,12 +46,13 @@ func must[T any](it T, err error) T {
 }
 
 func main() {
-	log, quote := must(os.ReadFile(os.Args[1])), must(os.ReadFile(os.Args[2]))
-	signature, key := must(os.ReadFile(os.Args[3])), must(vinjakwe.PublicKey(must(os.ReadFile(os.Args[4]))))
-	nonce, registers := must(hex.DecodeString(os.Args[5])), must(vinjakwe.Selection(os.Args[6]))
-	expected := vinjakwe.Expected{Nonce: nonce, Selection: registers}
-	attest := must(vinjakwe.Verify(log, quote, signature, key, expected))
-	status := 0
+	read := func(i int) []byte { return must(os.ReadFile(os.Args[i])) }
+	log, quote, signature, key := read(1), read(2), read(3), must(vinjakwe.PublicKey(read(4)))
+	wanted := vinjakwe.Expected{Nonce: must(hex.DecodeString(os.Args[5])), Selection: must(vinjakwe.Selection(os.Args[6]))}
+	if len(os.Args) > 7 {
+		wanted.Allow = must(vinjakwe.ParseAllowed(string(read(7))))
+	}
+	attest, status := must(vinjakwe.Verify(log, quote, signature, key, wanted)), 0
 	for _, quoted := range attest.Selections {
 		status |= tell(log, attest, quoted)
 	}
