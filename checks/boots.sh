@@ -250,7 +250,8 @@ booted() {
 }
 
 # told NAME: the program says of each register of the log that it matches, but register 10, which is the kernel's own;
-# of Secure Boot what is true; and it tells all frames, and refuses none of the commands that it has.
+# of Secure Boot what is true; of the log beside a quote what Python says; and it tells all frames, and refuses none of
+# the commands that it has.
 told() {
     "$program" check "$here/log" --registers "$here/registers" >"$here/matches"
     awk '$2 " " $3 !~ /^sha[0-9]* 10$/ && $1 != "match" { print; bad = 1 } END { exit bad }' "$here/matches" || return 1
@@ -263,10 +264,33 @@ told() {
         *) grep -q -w -e off -e unset "$here/secure" && ! grep -q -w on "$here/secure" ;;
         esac || { cat "$here/secure" && return 1; }
     fi
+    ! command -v python3 >/dev/null 2>&1 || vouched || return 1
     "$program" show --file "$here/frames" >"$here/frames.told"
     [ "$(grep -c . "$here/frames")" -gt 60 ] || { echo "only $(grep -c . "$here/frames") frames" && return 1; }
     refused_frames >"$here/refused"
     [ ! -s "$here/refused" ] || { head -n 3 "$here/refused" && return 1; }
+}
+
+# same_as WORD..: what the words print is in $here/wanted.
+same_as() {
+    "$@" >"$here/printed" && cmp "$here/printed" "$here/wanted"
+}
+
+# vouched: beside a quote of the registers that the kernel showed, which is made here, the program tells what it vouches
+# for in each record, and that all digests are on the list of what the log extends, as Python's hashlib does.
+vouched() {
+    all=0,1,2,3,4,5,6,7,8,9 records=checks/logs/list_events.py digests=checks/logs/allowed.py
+    list=sha1:$all+sha256:$all+sha384:$all
+    set -- --attest "$here/quote" --nonce 6e6f --require "$list"
+    python3 checks/quotes/made.py "$here/registers" 6e6f "$list" >"$here/quote" &&
+        python3 checks/quotes/told.py --lines "$here/quote" matches covers matches >"$here/verdicts" &&
+        python3 $records "$here/log" "$list" | cat "$here/verdicts" - >"$here/wanted" &&
+        same_as "$program" events "$here/log" "$@" --digests --places &&
+        python3 $records "$here/log" >"$here/events" && python3 $digests lists "$here/events" >"$here/wanted" &&
+        same_as "$program" check "$here/log" --extends &&
+        python3 $digests lists "$here/events" "$list" >"$here/list" &&
+        python3 $digests told "$here/events" "$here/list" | cat "$here/verdicts" - >"$here/wanted" &&
+        same_as "$program" check "$here/log" "$@" --allow "$here/list"
 }
 
 # refused_frames: those of the eighteen commands that the program refuses.

@@ -270,10 +270,27 @@ same_codes() {
     { cut -f 2 "$room/codes" && echo 0x1084; } | cmp - "$room/out"
 }
 
-# same_vouched: what the quotes of checks/quotes vouch for: what was measured in the registers that they select.
+# attest_tells STATUS WORD..: what examples/attest.c says with these words, which $room/out.wanted has.
+attest_tells() {
+    ends=$1
+    shift
+    "$room/attest" "$@" >"$room/out"
+    [ $? -eq "$ends" ] && cmp "$room/out" "$room/out.wanted" || { echo "$*: $(head -n 3 "$room/out")" && return 1; }
+}
+
+# tells_nothing LINE WORD..: nothing is told of any record, but this line on the quote.
+tells_nothing() {
+    echo "$1" >"$room/out.wanted"
+    shift
+    attest_tells 1 "$@"
+}
+
+# same_vouched: what the quotes of checks/quotes vouch for: what was measured in the registers that they select. Nothing
+# is told where a quote is not the one that was asked for.
 same_vouched() {
     while read -r quote log hash sent wanted; do
-        "$room/events" measured <"checks/quotes/$log" | awk -v list="$wanted" '
+        log=checks/quotes/$log quote=checks/quotes/$quote.msg
+        "$room/events" measured <"$log" | awk -v list="$wanted" '
             BEGIN {
                 split("0004 000b 000c", hashes)
                 split("sha1 sha256 sha384", names)
@@ -294,25 +311,50 @@ same_vouched() {
                 }
                 print line
             }' >"$room/out.wanted"
-        "$room/attest" --vouched "checks/quotes/$log" "checks/quotes/$quote.msg" >"$room/out" || return 1
-        cmp "$room/out" "$room/out.wanted" || return 1
+        attest_tells 0 --vouched "$log" "$quote" "$hash" "$sent" "$wanted" || return 1
+        tells_nothing 'nonce differs' --vouched "$log" "$quote" "$hash" "${sent}00" "$wanted" &&
+            tells_nothing 'selection lacks sha384 9' --vouched "$log" "$quote" "$hash" "$sent" sha384:9 || return 1
+        log=checks/logs/cut_by_a_byte.log
+        tells_nothing 'log Truncated at 211' --vouched $log "$quote" "$hash" "$sent" "$wanted" || return 1
+        case $quote in */not-measured.msg) continue ;; esac
+        log=checks/logs/worked.log
+        tells_nothing 'digest differs' --vouched $log "$quote" "$hash" "$sent" "$wanted" || return 1
     done <checks/quotes/cases.txt
 }
 
+# same_forged: what a quote vouches for in the log of what was measured, and in logs in which data, types or further
+# records are others (checks/logs/NAME.vouched).
+same_forged() {
+    list=sha1:1,8+sha256:0,1,4,7,8+sha384:1,7
+    by_python checks/quotes/made.py checks/logs/attested.registers 6e6f "$list" >"$room/quote"
+    for log in attested attested_changed attested_relabelled attested_added; do
+        awk '{ sub(/^vouched=-?/, "", $6); gsub(/,/, " ", $6); print $2 ($6 == "" ? "" : " " $6) }' \
+            "checks/logs/$log.vouched" >"$room/out.wanted"
+        attest_tells 0 --vouched "checks/logs/$log.log" "$room/quote" sha256 6e6f "$list" || return 1
+    done
+}
+
 # same_allowed: the digests of each log that has a list of lines beside themselves, and beside a list in which the first
-# of each register is another, and the others have another register, too: what checks/logs/allowed.py says of them.
+# of each register is another, and the others have another register, too: what checks/logs/allowed.py says of them, by a
+# quote that selects the registers of the list. Beside any other quote, or an empty list, that alone is told.
 same_allowed() {
     for events in checks/logs/*.events; do
+        log=${events%.events}
         by_python checks/logs/allowed.py lists "$events" >"$room/list"
         [ -s "$room/list" ] || continue
         awk '{ of = $1 " " $2 } !(of in first) { first[of] = $3; print of, "00" substr($3, 3), "other"; next }
             { print $1, $2 == 0 ? 1 : 0, $3; print; print "# none" }' "$room/list" >"$room/others"
         for list in list others; do
+            selected=$(by_python checks/logs/allowed.py registers "$room/$list")
+            by_python checks/quotes/made.py "$log.registers" 6e6f "$selected" >"$room/quote"
             by_python checks/logs/allowed.py told "$events" "$room/$list" >"$room/out.wanted"
             if grep -q '^unknown' "$room/out.wanted"; then wanted=1; else wanted=0; fi
-            "$room/attest" --allowed "${events%.events}.log" "$room/$list" >"$room/out"
-            [ $? -eq "$wanted" ] && cmp "$room/out" "$room/out.wanted" || { echo "$events, $list" && return 1; }
+            attest_tells "$wanted" --allowed "$log.log" "$room/quote" sha256 6e6f "$room/$list" || return 1
         done
+        { cat "$room/list" && echo "sha384 13 $(zeros 48)"; } >"$room/more"
+        tells_nothing 'nonce differs' --allowed "$log.log" "$room/quote" sha256 6e "$room/list" &&
+            tells_nothing 'selection lacks sha384 13' --allowed "$log.log" "$room/quote" sha256 6e6f "$room/more" &&
+            tells_nothing 'no register' --allowed "$log.log" "$room/quote" sha256 6e6f /dev/null || return 1
     done
 }
 
@@ -720,9 +762,10 @@ else
     holds "quotes that are changed at random through C" changed_quotes
     holds "what quotes vouch for through C" same_vouched
     if command -v python3 >/dev/null 2>&1 && begin_python; then
+        holds "what a quote vouches for in logs of other data, types and records through C" same_forged
         holds "a list of digests beside the logs through C" same_allowed
     else
-        skip "a list of digests beside the logs through C" "there is no python3"
+        skip "made quotes, and a list of digests, beside the logs through C" "there is no python3"
     fi
     holds "signatures by their parts through C" same_signatures
     holds "the digest of a policy through C" same_policies

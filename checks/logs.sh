@@ -332,6 +332,71 @@ if python3 -c pass >"$room/out" 2>&1 && begin_python; then
             >"$room/out.wanted"
         ran "the objects of $log beside a quote" 0 events "$logs/$log.log" $words --json
     done
+
+    # compares NAME STATUS LOG NONCE LIST: what is said of a log beside the quote $signed and a list of allowed digests:
+    # $room/lines, or the objects of $room/members.
+    compares() {
+        case=$1 ends=$2
+        { by_python checks/quotes/told.py --lines "$signed" matches any matches && cat "$room/lines"; } \
+            >"$room/out.wanted"
+        checked "$case" "$ends" "$3" --attest "$signed" --nonce "$4" --allow "$5"
+        case $ends in 0) ok=true ;; *) ok=false ;; esac
+        { by_python checks/quotes/told.py "$signed" matches any matches | sed '$d' && cat "$room/members" &&
+            echo "{\"ok\":$ok}"; } >"$room/out.wanted"
+        told "$case, as objects" "$ends" "$3" --attest "$signed" --nonce "$4" --allow "$5"
+    }
+    # compares_by EVENTS NAME LOG NONCE LIST: the same, as checks/logs/allowed.py says it of these records.
+    compares_by() {
+        by_python checks/logs/allowed.py told "$1" "$5" >"$room/lines"
+        by_python checks/logs/allowed.py told "$1" "$5" json >"$room/members"
+        if grep -q '^unknown' "$room/lines"; then ends=1; else ends=0; fi
+        compares "$2" $ends "$3" "$4" "$5"
+    }
+    # other_digest LINE LIST: the list, with another digest in this line.
+    other_digest() {
+        awk -v line="$1" 'NR == line { $3 = (substr($3, 1, 1) == "f" ? 0 : "f") substr($3, 2) } { print }' "$2"
+    }
+
+    # The same logs beside lists of allowed digests: all that the true log extends in the quoted registers, of which no
+    # other log has a digest more there; and lists that lack one, which is told with the type that the log has.
+    signed=$room/quote
+    by_python checks/logs/allowed.py lists "$logs/attested.events" "$list" >"$room/true"
+    missing=d0f45f252e8d374bd2483c7d7ec3470658f9338d
+    grep -v " $missing " "$room/true" >"$room/fewer"
+    grep '^sha256 [08] ' "$room/true" >"$room/quoted"
+    by_python checks/logs/allowed.py lists "$logs/attested.events" sha1:0+sha256:0 >"$room/sha1"
+    by_python checks/logs/allowed.py lists "$logs/attested.events" sha256:8+sha384:8 >"$room/sha384"
+    printf 'allowed %s\n' 'sha1 1' 'sha1 8' 'sha256 0' 'sha256 1' 'sha256 4' 'sha256 7' 'sha256 8' 'sha384 1' \
+        'sha384 7' >"$room/all.lines"
+    sed 's/allowed \(.*\) \(.*\)/{"bank":"\1","register":\2,"allowed":true}/' "$room/all.lines" >"$room/all.members"
+    while read -r log kind; do
+        of="$log beside the digests of the true log"
+        cp "$room/all.lines" "$room/lines" && cp "$room/all.members" "$room/members"
+        compares "$of" 0 "$logs/$log.log" 6e6f "$room/true"
+        sed "s/^allowed sha1 1\$/unknown sha1 1 at 676 $missing $kind/" "$room/all.lines" >"$room/lines"
+        it="{\"bank\":\"sha1\",\"register\":1,\"allowed\":false,\"at\":676,\"digest\":\"$missing\",\"type\":\"$kind\"}"
+        sed "1s/.*/$it/" "$room/all.members" >"$room/members"
+        compares "$of but one" 1 "$logs/$log.log" 6e6f "$room/fewer"
+        for line in $(seq "$(wc -l <"$room/true")"); do
+            other_digest "$line" "$room/true" >"$room/others"
+            compares_by "$logs/$log.events" "$of, another in line $line" "$logs/$log.log" 6e6f "$room/others"
+        done
+        # Of registers 0 and 8 not all banks that the log extends are quoted.
+        printf 'allowed sha256 %s\n' 0 8 >"$room/lines"
+        printf '{"bank":"sha256","register":%s,"allowed":true}\n' 0 8 >"$room/members"
+        compares "$log beside digests of a quoted bank" 0 "$logs/$log.log" 6e6f "$room/quoted"
+        echo 'selection lacks sha1 0' >"$room/lines"
+        echo '{"selection":"lacks","lacks":{"bank":"sha1","register":0}}' >"$room/members"
+        compares "$log beside digests of a bank that isn't quoted" 1 "$logs/$log.log" 6e6f "$room/sha1"
+        echo 'selection lacks sha384 8' >"$room/lines"
+        echo '{"selection":"lacks","lacks":{"bank":"sha384","register":8}}' >"$room/members"
+        compares "$log beside digests of another bank that isn't quoted" 1 "$logs/$log.log" 6e6f "$room/sha384"
+    done <<'    end'
+        attested EV_EFI_VARIABLE_BOOT
+        attested_changed EV_EFI_VARIABLE_BOOT
+        attested_relabelled EV_EVENT_TAG
+        attested_added EV_EFI_VARIABLE_BOOT
+    end
     log=$logs/attested
     { by_python checks/quotes/told.py --lines "$room/quote" matches covers matches && awk '$2 == 8' "$log.vouched"; } \
         >"$room/out.wanted"
@@ -367,6 +432,16 @@ if python3 -c pass >"$room/out" 2>&1 && begin_python; then
         { by_python checks/quotes/told.py "$signed" matches covers matches &&
             by_python checks/logs/list_events.py "$log" "$list" --json; } >"$room/out.wanted"
         ran "the objects of ${log##*/} beside the quote $quote" 0 events "$log" $words --json
+        # What the log extends, and that in the quoted registers as a list of allowed digests; then with another digest.
+        of="${log##*/} beside the quote $quote"
+        by_python checks/logs/list_events.py "$log" >"$room/events"
+        by_python checks/logs/allowed.py lists "$room/events" >"$room/out.wanted"
+        checked "the digests that $of extends" 0 "$log" --extends
+        by_python checks/logs/allowed.py lists "$room/events" "$list" >"$room/list"
+        [ -s "$room/list" ] || continue
+        compares_by "$room/events" "$of and its digests" "$log" "$nonce" "$room/list"
+        other_digest "$(wc -l <"$room/list")" "$room/list" >"$room/others"
+        compares_by "$room/events" "$of and other digests" "$log" "$nonce" "$room/others"
     done <checks/quotes/cases.txt
 else
     skip "quotes as objects" "python3 is not there"

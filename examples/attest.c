@@ -2,19 +2,19 @@
  * is the one that was asked for. Its signature is verified before, by other means.
  *
  *     attest LOG QUOTE sha1|sha256|sha384 NONCE_HEX REQUIRED
- *     attest --vouched LOG QUOTE
- *     attest --allowed LOG LIST
+ *     attest --vouched LOG QUOTE sha1|sha256|sha384 NONCE_HEX REQUIRED
+ *     attest --allowed LOG QUOTE sha1|sha256|sha384 NONCE_HEX LIST
  *     attest --changed COUNT LOG QUOTE sha1|sha256|sha384 NONCE_HEX REQUIRED
  *     attest --signature FILE
  *
  * REQUIRED is as tpm2-tools write selections, like sha256:0,1,2+sha1:7 or sha256:all, and - where nothing is required.
- * The status is 0 where the quote is the one that was asked for. With --vouched each record of the log has a line of
- * its register and of each bank in which the quote vouches for a part of it; what was asked for is not looked at then.
- * With --allowed it is told of each register that a list of digests names whether all are on it by which the log
- * extends it, as by `tpmtool check --allow`; what the quote selects is not looked at then, and has to be these.
- * With --changed the quote is changed at random so often, and what is answered of it is looked at: each part that is
- * told lies in its bytes, and a changed quote is refused or has another verdict or other parts. With --signature the
- * parts of a signature are told, as `tpm2_quote -s` writes it. */
+ * The status is 0 where the quote is the one that was asked for. Any other vouches for nothing: its verdict is told,
+ * and no record of the log. With --vouched each record has a line of its register and of each bank in which the quote
+ * vouches for a part of it. With --allowed the quote has to select the registers that a list of digests names; it is
+ * told of each whether all digests are on the list by which the log extends it, as by `tpmtool check --allow`, and the
+ * status is 0 where they are. With --changed the quote is changed at random so often, and what is answered of it is
+ * looked at: each part that is told lies in its bytes, and a changed quote is refused or has another verdict or other
+ * parts. With --signature the parts of a signature are told, as `tpm2_quote -s` writes it. */
 #include "vinjakwe.h"
 
 #include <stdio.h>
@@ -157,7 +157,7 @@ static uint32_t check(const uint8_t *bytes, size_t len, uint16_t hash, struct tp
     return tpm_log_check_attest(log_bytes, log_len, bytes, len, hash, nonce, nonce_len, required, required_len, fault);
 }
 
-/* Of each record what the quote vouches for. */
+/* Of each record what the quote vouches for, which is the one that was asked for. */
 static int show_vouched(void) {
     static const char *const parts[] = {"data", "variable", "text", "cut", "digest"};
     struct tpm_attest view;
@@ -214,6 +214,22 @@ static void read_list(const char *path) {
     fclose(file);
 }
 
+/* The registers that the list names, as a TPML_PCR_SELECTION with an entry for each bank. */
+static size_t registers_of_list(uint8_t *room) {
+    uint8_t *entry = room + 4;
+    memset(room, 0, TPM_SELECTION_BYTES);
+    room[3] = 3;
+    for (const struct bank *bank = banks; bank != banks + 3; bank++, entry += 6) {
+        entry[0] = (uint8_t)(bank->hash >> 8);
+        entry[1] = (uint8_t)bank->hash;
+        entry[2] = 3;
+        for (size_t i = 0; i < list_len; i++)
+            if (list[i].hash == bank->hash)
+                entry[3 + list[i].pcr / 8] |= (uint8_t)(1 << list[i].pcr % 8);
+    }
+    return TPM_SELECTION_BYTES;
+}
+
 static void print_unknown(const struct tpm_log_event *event, const struct tpm_log_digest *it) {
     uint8_t name[TPM_EVENT_TYPE_BYTES];
     size_t len = tpm_event_type_name(event->type, name, sizeof name);
@@ -247,9 +263,12 @@ static int show_unknown(const struct bank *bank, uint32_t pcr) {
     return wrong || said != TPM_LOG_DONE;
 }
 
-/* The same of each register that the list names: no bytes are no digest of any bank, so that they are never on it. */
+/* The same of each register that the list names, all of which the quote that was asked for selects: no bytes are no
+ * digest of any bank, so that they are never on the list. */
 static int show_allowed(void) {
-    int wrong = 0;
+    int wrong = list_len == 0;
+    if (list_len == 0)
+        printf("no register\n");
     for (const struct bank *bank = banks; bank != banks + 3; bank++)
         for (uint32_t pcr = 0; pcr < 24; pcr++)
             if (tpm_log_allowed(list, list_len, pcr, 0, bank->hash, log_bytes, 0) == TPM_NOT_ALLOWED)
@@ -327,25 +346,20 @@ int main(int argc, char **argv) {
     struct tpm_attest view;
     struct tpm_refusal refusal;
     struct tpm_attest_fault fault = {0, 0, 0, 0};
+    const char *task = argc > 1 && strncmp(argv[1], "--", 2) == 0 ? argv[1] : "";
+    int vouched = strcmp(task, "--vouched") == 0, allowed = strcmp(task, "--allowed") == 0;
     unsigned long count = 0;
     const struct bank *bank;
     uint32_t said;
-    if (argc > 2 && strcmp(argv[1], "--changed") == 0) {
+    if (argc == 3 && strcmp(task, "--signature") == 0)
+        return show_signature(read_file(argv[2], quote, sizeof quote));
+    if (argc > 2 && strcmp(task, "--changed") == 0) {
         count = strtoul(argv[2], NULL, 10);
         argc -= 2;
         argv += 2;
-    }
-    if (argc == 3 && strcmp(argv[1], "--signature") == 0)
-        return show_signature(read_file(argv[2], quote, sizeof quote));
-    if (argc == 4 && strcmp(argv[1], "--vouched") == 0) {
-        log_len = read_file(argv[2], log_bytes, sizeof log_bytes);
-        quote_len = read_file(argv[3], quote, sizeof quote);
-        return show_vouched();
-    }
-    if (argc == 4 && strcmp(argv[1], "--allowed") == 0) {
-        log_len = read_file(argv[2], log_bytes, sizeof log_bytes);
-        read_list(argv[3]);
-        return show_allowed();
+    } else if (vouched || allowed) {
+        argc--;
+        argv++;
     }
     if (argc != 6)
         usage();
@@ -353,14 +367,22 @@ int main(int argc, char **argv) {
     quote_len = read_file(argv[2], quote, sizeof quote);
     bank = bank_named(argv[3], strlen(argv[3]));
     nonce_len = read_hex(argv[4], nonce, sizeof nonce);
-    required_len = read_required(argv[5], required, sizeof required);
     if (bank == NULL)
         usage();
+    if (allowed) {
+        read_list(argv[5]);
+        required_len = registers_of_list(required);
+    } else
+        required_len = read_required(argv[5], required, sizeof required);
     if (count > 0)
         return try_changed(count, bank->hash);
-    if (tpm_attest_decode(quote, quote_len, &view, &refusal) == TPM_DONE)
-        print_view(&view);
     said = check(quote, quote_len, bank->hash, &fault);
+    if (said == TPM_ATTEST_MATCHES && vouched)
+        return show_vouched();
+    if (said == TPM_ATTEST_MATCHES && allowed)
+        return show_allowed();
+    if (!vouched && !allowed && tpm_attest_decode(quote, quote_len, &view, &refusal) == TPM_DONE)
+        print_view(&view);
     print_verdict(said, &fault);
     return said != TPM_ATTEST_MATCHES;
 }

@@ -608,8 +608,8 @@ struct tpm_allowed {
  * TPM_ALG_SHA256 or TPM_ALG_SHA384): TPM_ALLOWED, TPM_NOT_ALLOWED, or TPM_LOG_DONE where the list doesn't name the register, or the type
  * is EV_NO_ACTION, which extends nothing; or TPM_QUOTE_NO_BANK. Each call goes through the list.
  *
- * Where TPM_NOT_ALLOWED is answered of no digest of no record of a log, and a quote that selects each register of the list matches the log
- * (tpm_log_check_attest), each log that it vouches for has digests of the list alone in these registers. */
+ * Where TPM_NOT_ALLOWED is answered of no digest of any record of a log, and a quote that selects each register of the list matches the
+ * log (tpm_log_check_attest), each log that it vouches for has digests of the list alone in these registers. */
 uint32_t tpm_log_allowed(const struct tpm_allowed *list, size_t len, uint32_t pcr, uint32_t kind, uint16_t hash, const uint8_t *digest,
                          size_t digest_len);
 

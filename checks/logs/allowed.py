@@ -1,5 +1,6 @@
 #!/usr/bin/env python3
 """allowed.py lists EVENTS: what `tpmtool check LOG --extends` prints of the log whose records EVENTS has.
+allowed.py lists EVENTS REGISTERS: those lines of these registers alone, as `sha1:7+sha256:0,7`.
 allowed.py registers LIST: the registers that a list of allowed digests names, as `sha1:7+sha256:0,7`.
 allowed.py told EVENTS LIST [json]: what `check LOG --attest .. --allow LIST` says of that log beside the list.
 
@@ -35,8 +36,12 @@ def listed(path):
     return found
 
 
-def lists(path):
+def lists(path, registers=None):
+    banks = (entry.split(":") for entry in registers.split("+")) if registers else ()
+    chosen = {(BANKS.index(bank), int(register)) for bank, numbers in banks for register in numbers.split(",")}
     for (bank, register), those in sorted(extensions(path).items()):
+        if registers and (bank, register) not in chosen:
+            continue
         told = set()
         for digest, _, kind in those:
             if digest not in told:
