@@ -187,7 +187,6 @@ fn leave_authorization<'a>(cursor: &mut Cursor<'a>, behind: Outer<'a>) -> Result
 /// Reads the sessions of a command with this tag, none for another than 0x8002, in the place of others; or answers the
 /// authorization area's first fault, as `Handled::areas` does (Part 1, "Command/Response Structure").
 #[tactic(auto, unfolding(crate::specs::Commands::authorization))]
-#[inline(never)]
 pub(crate) fn read_authorization<'a, S: SessionList<'a>>(
     cursor: &mut Cursor<'a>,
     tag: u16,

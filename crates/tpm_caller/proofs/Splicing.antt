@@ -1,5 +1,5 @@
 -- What is written behind the handles of a command makes it the sealed command.
-use Rattle.std.proofs.Common.{◌≡◌, ℕ, ◌+◌, List, [], ◌∷◌, ◌++◌, length, refl, sym, subst, ap, ◌∙◌, arith}
+use Rattle.std.proofs.Common.{◌≡◌, ℕ, ◌+◌, List, [], ◌∷◌, ◌++◌, length, sym, subst, ap, ◌∙◌, arith}
 use Rattle.std.proofs.Common.{append_assoc, length-append}
 use Rattle.std.proofs.lemmas.List.{append-nil}
 use Rattle.std.specs.Int.{bytes_high_first}
@@ -66,46 +66,22 @@ grouped : (tag size code handles number session nonce_len nonce attrs mac_len ma
     ++ ((number ++ (session ++ ((nonce_len ++ nonce) ++ (attrs ++ ((mac_len ++ mac) ++ []))))) ++ params))))
 grouped tag size code handles number session nonce_len nonce attrs mac_len mac params = simp (append-nil, append_assoc)
 
--- as they are written, where the numbers of the code, the session and the attributes are these
-abbrev text : PlainParts → Auth → (code session attrs : ℕ) → List ℕ
-text p a code session attrs =
-    in_turn (bytes_high_first 2 0x8002) (bytes_high_first 4 (14 + length p.handles + session_size a + length p.params))
-    (bytes_high_first 4 code) p.handles (bytes_high_first 4 (session_size a)) (bytes_high_first 4 session)
-    (bytes_high_first 2 (length a.nonce)) a.nonce (bytes_high_first 1 attrs) (bytes_high_first 2 (length a.hmac)) a.hmac p.params
-
-spliced : (p : PlainParts) (a : Auth) → text p a (code_number p.code) a.session a.attrs ≡ joined p.code p.handles (spelling auth_command a) p.params
+-- What is written is the joined parts, where the numbers lie in these bytes.
+pub written_in : (q p : PlainParts) (a : Auth) (old new : List ℕ) (count : ℕ)
+    (tag size code area session nonce_len attrs mac_len : List ℕ) → tag ≡ bytes_high_first 2 0x8002
+    → size ≡ bytes_high_first 4 (14 + length q.handles + session_size a + length q.params) → code ≡ bytes_high_first 4 (code_number q.code)
+    → area ≡ bytes_high_first 4 (session_size a) → session ≡ bytes_high_first 4 a.session → nonce_len ≡ bytes_high_first 2 (length a.nonce)
+    → attrs ≡ bytes_high_first 1 a.attrs → mac_len ≡ bytes_high_first 2 (length a.hmac) → q ≡ p
+    → IsAtFront (in_turn tag size code q.handles area session nonce_len a.nonce attrs mac_len a.hmac q.params) old new count
+    → IsAtFront (joined p.code p.handles (spelling auth_command a) p.params) old new count
 unfolding auth_command auth_session session_attrs sized_bytes
-spliced p a =
-    grouped (bytes_high_first 2 0x8002) (bytes_high_first 4 (14 + length p.handles + session_size a + length p.params))
-    (bytes_high_first 4 (code_number p.code)) p.handles (bytes_high_first 4 (session_size a))
-    (bytes_high_first 4 a.session) (bytes_high_first 2 (length a.nonce)) a.nonce (bytes_high_first 1 a.attrs)
-    (bytes_high_first 2 (length a.hmac)) a.hmac p.params
-    ∙ sym (joined_is p a)
-
-written : (q p : PlainParts) (a : Auth) (old new : List ℕ) (code session attrs count : ℕ) → q ≡ p → code ≡ code_number q.code
-    → session ≡ a.session → attrs ≡ a.attrs → IsAtFront (text q a code session attrs) old new count
-    → IsAtFront (joined p.code p.handles (spelling auth_command a) p.params) old new count
-written q p a old new code session attrs count is c n t front =
-    let same : text q a code session attrs ≡ text q a (code_number q.code) a.session a.attrs =
-    ap (λ (k : ℕ). text q a k session attrs) c
-    ∙ ap (λ (k : ℕ). text q a (code_number q.code) k attrs) n
-    ∙ ap (text q a (code_number q.code) a.session) t in
+written_in q p a old new count tag size code area session nonce_len attrs mac_len t z o r m n b k is front =
+    let same : in_turn tag size code q.handles area session nonce_len a.nonce attrs mac_len a.hmac q.params
+    ≡ joined q.code q.handles (spelling auth_command a) q.params =
+    grouped tag size code q.handles area session nonce_len a.nonce attrs mac_len a.hmac q.params
+    ∙ rw (t, z, o, r, m, n, b, k) (sym (joined_is q a)) in
     subst (λ (r : PlainParts). IsAtFront (joined r.code r.handles (spelling auth_command a) r.params) old new count) is
-    (subst (λ (l : List ℕ). IsAtFront l old new count) (same ∙ spliced q a) front)
-
--- The same, where the numbers lie in these bytes.
-pub written_in : (q p : PlainParts) (a : Auth) (old new : List ℕ) (code session attrs count : ℕ)
-    (tag size coded area number nonce_len attrs_byte mac_len : List ℕ) → tag ≡ bytes_high_first 2 0x8002
-    → size ≡ bytes_high_first 4 (14 + length q.handles + session_size a + length q.params) → coded ≡ bytes_high_first 4 code
-    → area ≡ bytes_high_first 4 (session_size a) → number ≡ bytes_high_first 4 session → nonce_len ≡ bytes_high_first 2 (length a.nonce)
-    → attrs_byte ≡ bytes_high_first 1 attrs → mac_len ≡ bytes_high_first 2 (length a.hmac)
-    → q ≡ p → code ≡ code_number q.code → session ≡ a.session → attrs ≡ a.attrs
-    → IsAtFront (in_turn tag size coded q.handles area number nonce_len a.nonce attrs_byte mac_len a.hmac q.params) old new count
-    → IsAtFront (joined p.code p.handles (spelling auth_command a) p.params) old new count
-written_in q p a old new code session attrs count tag size coded area number nonce_len attrs_byte mac_len t z o r m n b k is c i j front =
-    let same : in_turn tag size coded q.handles area number nonce_len a.nonce attrs_byte mac_len a.hmac q.params ≡ text q a code session attrs =
-    rw (t, z, o, r, m, n, b, k) refl in
-    written q p a old new code session attrs count is c i j (subst (λ (l : List ℕ). IsAtFront l old new count) same front)
+    (subst (λ (l : List ℕ). IsAtFront l old new count) same front)
 
 -- ---- the sealed command
 

@@ -73,7 +73,7 @@ fn named_opening(shape: Shape) -> &'static str
     }
 }
 
-// Puts the end of a name, and what it names. What stands together is put together, since most of the time of a text
+// Puts the end of a name, and what it names. What stands together is put together, since much of the time of a text
 // goes into puts of a character.
 fn put_named<S: Sink>(sink: &mut S, value: &Value<'_>) -> Told
     ensures { OnOk result (S.written sink.new
