@@ -28,12 +28,6 @@ not_true : (b : Bool) → (b ≡ true → ⊥) → b ≡ false
 not_true true isnt = absurd (isnt refl)
 not_true false isnt = refl
 
--- The first two bytes of a digest tell its bucket.
-pub bucket_first_two : (digest : List ℕ) → bucket (take 2 digest) ≡ bucket digest
-bucket_first_two [] = refl
-bucket_first_two (first ∷ []) = refl
-bucket_first_two (first ∷ second ∷ rest) = refl
-
 module _ (bank : Alg) (register : ℕ) (digest : List ℕ) where
   -- A digest is in the bucket of the one that it is.
   in_bucket : (a : AllowedDigest) → is_this bank register digest a ≡ true → bucket_of a ≡ bucket digest

@@ -1,19 +1,19 @@
 -- What hexadecimal digits spell, two to a byte.
 use Rattle.std.proofs.Common.{◌≡◌, ◌<◌, ◌≤◌, ◌+◌, ◌*◌, ◌/◌, ◌%◌, ℕ, List, [], ◌∷◌, Bool, true, false, Some, None, Ok, Err, length, slice_index, take, zero, suc}
 use Rattle.std.proofs.Common.{arith, refl, ap, sym, ◌∙◌, Result, eqb, inl, inr, map}
-use Rattle.std.specs.Prelude.{◌&&◌, Option, nat_eq, unwrap_or}
+use Rattle.std.specs.Prelude.{◌&&◌, Option, min, nat_eq, unwrap_or}
 use Rattle.std.specs.Bool.{one_answer}
 use Rattle.std.specs.Char.{to_ascii_lowercase}
 use Rattle.std.specs.Cmp.Lexicographic.{pointwise}
 use Rattle.std.specs.List.{list_all}
 use Rattle.std.proofs.lemmas.Bool.{and_parts, cases_lt, eq-eqb, eqb-true}
-use Rattle.std.proofs.lemmas.List.{length-take-le}
+use Rattle.std.proofs.lemmas.List.{take_all}
 use Rattle.std.proofs.lemmas.List.Sums.{AllPass-from_list_all, list_all-from_AllPass}
 use Rattle.std.proofs.lemmas.Slice.Eq.{bytes_eq-Decides}
-use Rattle.hex.specs.Hex.{IsBytes, decode_of, decode_pairs, decode_sized, encode_lower, encode_with, hex_digit_value, is_hex_digit, lower_digits, pair_value}
+use Rattle.hex.specs.Hex.{IsBytes, decode_of, decode_pairs, encode_lower, encode_with, hex_digit_value, is_hex_digit, lower_digits, pair_value}
 use Rattle.hex.specs.declared.error.FromHexError.{FromHexError}
 use Rattle.hex.proofs.HexLemmas.{decode_of-digits, decode_of-encode_lower, decode_of-even, decode_of-ok, decode_of-same}
-use Rattle.hex.proofs.Pairs.{cons_byte, decode_pairs-err_pair, decode_pairs-ok_pair, decode_sized-pairs}
+use Rattle.hex.proofs.Pairs.{cons_byte, decode_pairs-err_pair, decode_pairs-ok_pair}
 use Rattle.tpm_types.specs.declared.alg.Alg.{Alg}
 use Rattle.tpm_types.proofs.Algs.{digest_most}
 use Rattle.tpm_types.specs.Alg.{digest_len}
@@ -21,6 +21,9 @@ use Rattle.tpm_output.specs.Text.{bytes_in, value_of}
 use Rattle.tpm_check.specs.declared.allow_lines.AllowLine.TheVariants.{Allows, Wrong}
 use Rattle.tpm_check.specs.AllowLines.{allowing}
 use Rattle.tpm_check.specs.inner.AllowedLine.{spelled}
+use Rattle.tpm_check.specs.inner.AllowIndex.{bucket, digits_bucket, low}
+use Rattle.tpm_types.specs.Limits.{digest_bytes}
+use Rattle.std.proofs.lemmas.Grind.{common_steps}
 
 -- ---- one digit
 
@@ -118,20 +121,6 @@ in_pairs digits bytes is =
     let all = decoded digits bytes is in
     sym (decode_of-even digits (decode_of-ok digits bytes all).0) ∙ all
 
-first_pairs : (digits bytes : List ℕ) → 4 ≤ length digits → decode_pairs 0 digits ≡ Ok bytes → decode_pairs 0 (take 4 digits) ≡ Ok (take 2 bytes)
-unfolding decode_pairs
-first_pairs [] bytes long is = absurd (omega (arith, long))
-first_pairs (a ∷ []) bytes long is = absurd (omega (arith, long))
-first_pairs (a ∷ b ∷ []) bytes long is = absurd (omega (arith, long))
-first_pairs (a ∷ b ∷ c ∷ []) bytes long is = absurd (omega (arith, long))
-first_pairs (a ∷ b ∷ c ∷ d ∷ rest) bytes long is =
-    let one = begins 0 a b (c ∷ d ∷ rest) bytes is in
-    let two = begins 2 c d rest one.behind one.next in
-    let all : one.byte ∷ two.byte ∷ two.behind ≡ bytes = ap (λ (bs : List ℕ). one.byte ∷ bs) two.all ∙ one.all in
-    decode_pairs-ok_pair 0 a b one.byte (c ∷ d ∷ []) one.pair
-    ∙ ap (cons_byte one.byte) (decode_pairs-ok_pair 2 c d two.byte [] two.pair)
-    ∙ ap (λ (bs : List ℕ). Ok (take 2 bs)) all
-
 -- ---- a digest of the bank
 
 module _ (digits : List ℕ) (n : ℕ) (even : length digits ≡ 2 * n) (are : list_all is_hex_digit digits ≡ true) where
@@ -143,7 +132,7 @@ module _ (digits : List ℕ) (n : ℕ) (even : length digits ≡ 2 * n) (are : l
       let size = (decode_of-ok digits found.0 found.1).2 in
       (is ∙ ap Some (sym same), rw same (omega (arith, size, even)))
 
-two_bytes : (bank : Alg) → 2 ≤ digest_len bank
+pub two_bytes : (bank : Alg) → 2 ≤ digest_len bank
 two_bytes bank = grind arith
 
 module _ (bank : Alg) (digits : List ℕ) (are : (bytes_in digits ≡ Some (spelled digits)) × (length (spelled digits) ≡ digest_len bank)) where
@@ -151,13 +140,6 @@ module _ (bank : Alg) (digits : List ℕ) (are : (bytes_in digits ≡ Some (spel
   four_to_most =
       let two = twice digits (spelled digits) are.0 in
       (omega (arith, two, are.1, two_bytes bank), omega (arith, two, are.1, digest_most bank))
-
-  -- Four of them spell the first two bytes.
-  pub first_two : decode_sized (take 4 digits) 2 ≡ Ok (take 2 (spelled digits))
-  first_two =
-      let four = length-take-le 4 digits four_to_most.0 in
-      decode_sized-pairs (take 4 digits) 2 (rw four refl) (rw four refl)
-      ∙ first_pairs digits (spelled digits) four_to_most.0 (in_pairs digits (spelled digits) are.0)
 
 module _ (bank : Alg) (register : ℕ) (digits : List ℕ) where
   pub is_allowed : (bytes_in digits ≡ Some (spelled digits)) × (length (spelled digits) ≡ digest_len bank)
@@ -188,7 +170,37 @@ module _ (bank : Alg) (register : ℕ) (digits : List ℕ) where
       let z : true ≡ false = sym all ∙ other in
       cc z)
 
+-- ---- the bucket
+
+low_in_either : (digit : ℕ) → low (to_ascii_lowercase digit) ≡ low digit
+low_in_either digit = grind (arith, common_steps)
+
+bucket_in_either : (digits : List ℕ) → digits_bucket (map to_ascii_lowercase digits) ≡ digits_bucket digits
+bucket_in_either [] = refl
+bucket_in_either (a ∷ []) = refl
+bucket_in_either (a ∷ b ∷ []) = refl
+bucket_in_either (a ∷ b ∷ c ∷ []) = refl
+bucket_in_either (a ∷ b ∷ c ∷ d ∷ rest) = rw (low_in_either a, low_in_either b, low_in_either c, low_in_either d) refl
+
+-- The digits tell the bucket of the digest that they spell.
+pub bucket_spelled : (digits bytes : List ℕ) → bytes_in digits ≡ Some bytes → digits_bucket digits ≡ bucket bytes
+bucket_spelled digits bytes is =
+    sym (bucket_in_either digits) ∙ ap digits_bucket (pairs_lower 0 digits bytes (in_pairs digits bytes is))
+
+-- So do those of its first bytes.
+pub bucket_of_first : (digest : List ℕ) → digits_bucket (encode_lower (take digest_bytes digest)) ≡ bucket digest
+unfolding encode_with
+bucket_of_first [] = refl
+bucket_of_first (first ∷ []) = refl
+bucket_of_first (first ∷ second ∷ rest) = refl
+
 -- ---- a digest beside another
+
+-- No other has these digits.
+pub one_digest : (digits bytes digest : List ℕ) → bytes_in digits ≡ Some bytes → IsBytes digest → digits ≡ encode_lower digest → bytes ≡ digest
+one_digest digits bytes digest is fits same =
+    let z : Ok bytes ≡ Ok digest = sym (decoded digits bytes is) ∙ ap decode_of same ∙ decode_of-encode_lower digest fits in
+    cc z
 
 -- They are the same where their digits are, in lower case.
 pub same_digits : (digits bytes digest : List ℕ) → bytes_in digits ≡ Some bytes → IsBytes digest
@@ -203,3 +215,30 @@ same_digits digits bytes digest is fits =
           (ap decode_of (sym lower ∙ texts.0 same) ∙ decode_of-encode_lower digest fits),
       λ same. texts.1 (lower ∙ ap encode_lower same),
     ) (bytes_eq-Decides bytes digest)
+
+module _ (bank : Alg) (digits digest text : List ℕ) (are : (bytes_in digits ≡ Some (spelled digits)) × (length (spelled digits) ≡ digest_len bank))
+    (long : length digits ≡ 2 * length digest) (made : (text ≡ encode_lower (take digest_bytes digest)) × IsBytes digest) where
+  all_digits : text ≡ encode_lower digest
+  all_digits =
+      let most = (four_to_most bank digits are).1 in
+      made.0 ∙ ap encode_lower (take_all digest_bytes digest (omega (arith, most, long)))
+
+  pub same_as_made : pointwise nat_eq digits text ≡ true → true ≡ pointwise nat_eq (spelled digits) digest
+  same_as_made same =
+      sym
+      ((bytes_eq-Decides (spelled digits) digest).1
+      (one_digest digits (spelled digits) digest are.0 made.1 ((bytes_eq-Decides digits text).0 same ∙ all_digits)))
+
+  pub lower_as_made : pointwise nat_eq (map to_ascii_lowercase digits) text ≡ pointwise nat_eq (spelled digits) digest
+  lower_as_made =
+      ap (pointwise nat_eq (map to_ascii_lowercase digits)) all_digits ∙ same_digits digits (spelled digits) digest are.0 made.1
+
+-- ---- the first bytes
+
+pub first_bytes : (n most : ℕ) (bytes : List ℕ) → n ≡ min (length bytes) most → take n bytes ≡ take most bytes
+first_bytes n most bytes is = elim (cases_lt (length bytes) most) [
+  | inl short ↦ take_all n bytes (omega (arith, is, short)) ∙ sym (take_all most bytes (omega (arith, short)))
+  | inr long ↦
+      let same : n ≡ most = omega (arith, is, long) in
+      rw same refl
+]

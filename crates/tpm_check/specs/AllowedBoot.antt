@@ -1,5 +1,5 @@
 -- What is printed of a log beside a quote, and a list of allowed digests (this profile).
-use Rattle.std.specs.Prelude.{◌≡◌, ◌⊎◌, ℕ, Bool, true, false, nat_lt, List, [], length, map, Ok, Err}
+use Rattle.std.specs.Prelude.{◌⊎◌, ℕ, Bool, true, false, nat_lt, List, [], length, map, Ok, Err}
 use Rattle.std.specs.Prelude.{Option, Some, None}
 use Rattle.tpm_types.specs.declared.tpms.Selection.{Selection}
 use Rattle.tpm_types.specs.Alg.{all_algs}

@@ -5,7 +5,7 @@ ghost use Rattle.memchr.specs.Find.{is_byte};
 ghost use Rattle.std.specs.List.{before_first, slice_split};
 ghost use Rattle.tpm_output.specs.Text.{bytes_in};
 ghost use Rattle.tpm_check.specs.AllowLines.{allow_line, allowed_in, allowing, allowing_in, is_blank, is_feed};
-ghost use Rattle.tpm_check.specs.inner.AllowReading.{lines_left, read_as};
+ghost use Rattle.tpm_check.specs.inner.AllowReading.{IsFront, IsFrontOf, lines_left, read_as};
 
 use crate::allowed_line::AllowedLine;
 use crate::stated::{bank_named, cut, register_named};
@@ -55,16 +55,51 @@ fn before(byte: u8, bytes: &[u8]) -> &[u8]
     }
 }
 
-// What the words of a line say.
-fn read_words(text: &[u8]) -> AllowLine<'_>
-    ensures { result ≡ allowing_in text.now }
+/// What stands before the digits of a line: a bank and the number of a register, with a space behind each.
+#[derive(Clone, Copy)]
+struct Front<'a> {
+    bank: Alg,
+    register: PcrIndex,
+    text: &'a [u8],
+}
+
+// What stands before the digits of a line, where there are any.
+fn front_of(text: &[u8]) -> Option<Front<'_>>
+    ensures { IsFrontOf text.now result }
 {
     let (bank, behind) = cut(text);
-    let (register, behind) = cut(behind);
-    let digits = before(b' ', behind);
+    let (register, digits) = cut(behind);
+    if digits.is_empty() {
+        return None;
+    }
     match (bank_named(bank), register_named(register)) {
-        (Some(bank), Some(register)) => read_digest(bank, register, digits),
-        _ => AllowLine::Wrong,
+        (Some(bank), Some(register)) => Some(Front {
+            bank,
+            register,
+            text: &text[..text.len() - digits.len()],
+        }),
+        _ => None,
+    }
+}
+
+// The same, beside that of the line before, which most lines have, too.
+fn front_beside<'a>(text: &'a [u8], last: &Option<Front<'a>>) -> Option<Front<'a>>
+    requires { IfSome last.now IsFront }
+    ensures { IsFrontOf text.now result }
+{
+    match last {
+        Some(
+            Front {
+                bank,
+                register,
+                text: front,
+            },
+        ) if text.starts_with(front) => Some(Front {
+            bank: *bank,
+            register: *register,
+            text: front,
+        }),
+        _ => front_of(text),
     }
 }
 
@@ -74,14 +109,34 @@ fn is_blank(text: &[u8]) -> bool
     text.iter().all(|byte| *byte == b' ')
 }
 
-fn read_line(line: &[u8]) -> AllowLine<'_>
-    ensures { result ≡ allow_line line.now }
+// What the words of a line say.
+fn read_words<'a>(text: &'a [u8], front: &Option<Front<'a>>) -> AllowLine<'a>
+    requires { IsFrontOf text.now front.now }
+    ensures { result ≡ allowing_in text.now }
+{
+    match front {
+        Some(front) => {
+            let digits = before(b' ', &text[front.text.len()..]);
+            read_digest(front.bank, front.register, digits)
+        }
+        None => AllowLine::Wrong,
+    }
+}
+
+// What a line says, and what stands before its digits.
+fn read_line<'a>(line: &'a [u8], last: &mut Option<Front<'a>>) -> AllowLine<'a>
+    requires { IfSome last.old IsFront }
+    ensures said { result ≡ allow_line line.now }
+    ensures last { IfSome last.new IsFront }
 {
     let text = before(b'#', line);
     if is_blank(text) {
         return AllowLine::Nothing;
     }
-    read_words(text)
+    let front = front_beside(text, last);
+    let said = read_words(text, &front);
+    *last = front;
+    said
 }
 
 // The first line, and what stands behind its line feed, where it has one.
@@ -114,10 +169,11 @@ pub(crate) fn read_allowed(
     let mut found = Vec::with_capacity(alloc, bytes.len() / SHORTEST_LINE + 1)?;
     let mut number = 0;
     let mut left = Some(bytes);
+    let mut last = None;
     while let Some(lines) = left {
         let (line, behind) = cut_line(lines);
         number += 1;
-        match read_line(line) {
+        match read_line(line, &mut last) {
             AllowLine::Allows(line) => found.push(line)?,
             AllowLine::Nothing => {}
             AllowLine::Wrong => return Ok(Err(number)),

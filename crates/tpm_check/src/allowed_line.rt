@@ -1,9 +1,9 @@
-//! What a line of a list allows: a digest, by the digits that spell it there.
+//! What a line of a list allows: a digest, by the digits that spell it there; and a digest that is looked for.
 //!
 //! A processor foresees no digit, so that no branch goes by one where a digest is looked for. `hex` decodes by a branch
-//! for each digit, but encodes by a table: so the digits of that digest are made and compared.
+//! for each digit, but encodes by a table: so the digits of that digest are made, once, and compared.
 
-ghost use Rattle.std.specs.Prelude.{◌≡◌, ◌≤◌, ◌*◌, length, map, nat_eq, take, MatchOption};
+ghost use Rattle.std.specs.Prelude.{◌≡◌, ◌≤◌, ◌<◌, ◌*◌, ◌||◌, length, map, nat_eq, MatchOption};
 ghost use Rattle.std.specs.Char.{to_ascii_lowercase};
 ghost use Rattle.std.specs.Cmp.Lexicographic.{pointwise};
 ghost use Rattle.std.specs.List.{list_all};
@@ -12,11 +12,32 @@ ghost use Rattle.tpm_types.specs.Limits.{digest_bytes};
 ghost use Rattle.tpm_output.specs.Text.{bytes_in};
 ghost use Rattle.tpm_check.specs.declared.allow_lines.AllowLine.TheVariants.{Allows, Wrong};
 ghost use Rattle.tpm_check.specs.AllowLines.{allowing};
-ghost use Rattle.tpm_check.specs.inner.AllowIndex.{is_this};
+ghost use Rattle.tpm_check.specs.inner.AllowIndex.{bucket, digits_bucket, is_this, low};
 
-use hex::FromHex;
 use std::marker::Model;
 use tpm_types::{Alg, DIGEST_BYTES, PcrIndex};
+
+/// How many buckets digests lie in.
+pub(crate) const BUCKETS: usize = 16384;
+
+// Tells a digit from the others, in either case.
+fn low(digit: u8) -> usize
+    ensures value { result ≡ low digit }
+    ensures below { result < 32 }
+{
+    usize::from(digit % 32)
+}
+
+// The bucket of the digest that these digits spell.
+fn digits_bucket(digits: &[u8]) -> usize
+    ensures value { result ≡ digits_bucket digits.now }
+    ensures below { result < 16384 }
+{
+    match digits {
+        [a, b, c, d, ..] => (((low(*a) * 26 + low(*b)) * 26 + low(*c)) * 26 + low(*d)) % BUCKETS,
+        _ => 0,
+    }
+}
 
 // Whether all are hexadecimal digits.
 fn are_digits(text: &[u8]) -> bool
@@ -69,6 +90,60 @@ impl<'a> Model for AllowedLine<'a> {
         × (length (spelled l.digits.now) ≡ digest_len l.bank) };
 }
 
+/// A digest that is looked for, and the register of a bank that it extends.
+#[derive(Drop)]
+pub(crate) struct Sought<'a> {
+    bank: Alg,
+    register: u32,
+    digest: &'a [u8],
+    // Those of its first 48 bytes, in lower case.
+    digits: &'a [u8],
+}
+
+impl<'a> Model for Sought<'a> {
+    ghost use Rattle.std.specs.Prelude.{◌≡◌, take};
+    ghost use Rattle.hex.specs.Hex.{IsBytes, encode_lower};
+    ghost use Rattle.tpm_types.specs.Limits.{digest_bytes};
+    ghost use Rattle.tpm_vouched.specs.declared.allowed.AllowedDigest.{AllowedDigest as Allowed};
+
+    ghost Value = { Allowed };
+
+    ghost view = { λ s. record { register = s.register; digest = (s.bank, s.digest.now) } };
+
+    ghost invariant = { λ s.
+        (s.digits.now ≡ encode_lower (take digest_bytes s.digest.now)) × IsBytes s.digest.now };
+}
+
+impl<'a> Sought<'a> {
+    /// This one, whose digits are put into the room.
+    pub(crate) fn new(
+        bank: Alg,
+        register: u32,
+        digest: &'a [u8],
+        room: &'a mut [u8; 2 * DIGEST_BYTES],
+    ) -> Self
+        ensures { result ≡ record { register = register; digest = (bank, digest.now) } }
+    {
+        let first = &digest[..digest.len().min(DIGEST_BYTES)];
+        let digits = &mut room[..2 * first.len()];
+        hex::encode_to_slice(first, digits).unwrap();
+        Sought {
+            bank,
+            register,
+            digest,
+            digits,
+        }
+    }
+
+    /// The bucket in which it would be.
+    pub(crate) fn bucket(&self) -> usize
+        ensures value { result ≡ bucket self.now.digest.1 }
+        ensures below { result < 16384 }
+    {
+        digits_bucket(self.digits)
+    }
+}
+
 impl<'a> AllowedLine<'a> {
     /// What these digits allow, where they spell a digest of the bank.
     pub(crate) fn new(bank: Alg, register: PcrIndex, digits: &'a [u8]) -> Option<Self>
@@ -92,31 +167,29 @@ impl<'a> AllowedLine<'a> {
         (self.bank, self.register.number())
     }
 
-    /// The first two bytes of the digest.
-    pub(crate) fn first_two(&self) -> [u8; 2]
-        ensures { result ≡ take 2 self.now.digest.1 }
+    /// The bucket of the digest.
+    pub(crate) fn bucket(&self) -> usize
+        ensures value { result ≡ bucket self.now.digest.1 }
+        ensures below { result < 16384 }
     {
-        <[u8; 2]>::from_hex(&self.digits[..4]).unwrap()
+        digits_bucket(self.digits)
     }
 
-    // Whether the digest is this one.
-    fn spells(&self, digest: &[u8]) -> bool
-        ensures { result ≡ pointwise nat_eq self.now.digest.1 digest.now }
+    // Whether the digest is the one that is looked for.
+    fn spells(&self, sought: &Sought<'_>) -> bool
+        ensures { result ≡ pointwise nat_eq self.now.digest.1 sought.now.digest.1 }
     {
-        let mut room = [0; 2 * DIGEST_BYTES];
-        let text = &mut room[..self.digits.len()];
-        match hex::encode_to_slice(digest, text) {
-            Ok(()) => is_lower_case(self.digits, text),
-            Err(_) => false,
-        }
+        self.digits.len() == 2 * sought.digest.len()
+            && (*self.digits == *sought.digits || is_lower_case(self.digits, sought.digits))
     }
 
-    /// Whether it is this one, for this register of the bank.
-    pub(crate) fn is_this(&self, bank: Alg, register: u32, digest: &[u8]) -> bool
-        ensures { result ≡ is_this bank register digest.now self.now }
+    /// Whether it is the one that is looked for, and for that register.
+    pub(crate) fn is_this(&self, sought: &Sought<'_>) -> bool
+        ensures { result
+            ≡ is_this sought.now.digest.0 sought.now.register sought.now.digest.1 self.now }
     {
-        self.bank.number() == bank.number()
-            && self.register.number() == register
-            && self.spells(digest)
+        self.bank.number() == sought.bank.number()
+            && self.register.number() == sought.register
+            && self.spells(sought)
     }
 }

@@ -1,18 +1,25 @@
 -- Allowed digests in the chains of their buckets.
-use Rattle.std.specs.Prelude.{◌≡◌, ◌≤◌, ◌<◌, ◌+◌, ◌*◌, ◌/◌, ◌&&◌, ◌==◌, ℕ, Bool, List, [], ◌∷◌}
+use Rattle.std.specs.Prelude.{◌≡◌, ◌≤◌, ◌<◌, ◌+◌, ◌*◌, ◌%◌, ◌&&◌, ◌==◌, ℕ, Bool, List, ◌∷◌}
 use Rattle.std.specs.Prelude.{get_or, length, take, nat_eq}
 use Rattle.std.specs.Cmp.Lexicographic.{pointwise}
 use Rattle.std.specs.List.{list_any}
+use Rattle.hex.specs.Hex.{encode_lower}
 use Rattle.tpm_types.specs.declared.alg.Alg.{Alg}
 use Rattle.tpm_types.specs.Alg.{alg_number}
 use Rattle.tpm_vouched.specs.declared.allowed.AllowedDigest.{AllowedDigest}
 use Rattle.tpm_vouched.specs.Allowed.{is_for, names}
 
--- by what a digest begins with
+-- what tells a digit from the others, in either case
+abbrev pub low : ℕ → ℕ
+low digit = digit % 32
+
+-- by the digits that a digest begins with
+abbrev pub digits_bucket : List ℕ → ℕ
+digits_bucket (a ∷ b ∷ c ∷ d ∷ rest) = (((low a * 26 + low b) * 26 + low c) * 26 + low d) % 16384
+digits_bucket _ = 0
+
 abbrev pub bucket : List ℕ → ℕ
-bucket [] = 0
-bucket (first ∷ []) = 0
-bucket (first ∷ second ∷ rest) = first * 64 + second / 4
+bucket digest = digits_bucket (encode_lower digest)
 
 abbrev pub bucket_of : AllowedDigest → ℕ
 bucket_of a = bucket a.digest.1

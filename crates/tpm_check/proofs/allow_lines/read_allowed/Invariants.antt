@@ -1,6 +1,7 @@
 use Rattle.std.proofs.Common.{◌≡◌, ◌≤◌, ◌+◌, ℕ, List, Option, Some, None, length, option_map}
+use Rattle.std.specs.Prelude.{IfSome}
 use Rattle.tpm_check.specs.AllowLines.{allowed_from, allowed_in}
-use Rattle.tpm_check.specs.inner.AllowReading.{behind_these, lines_left}
+use Rattle.tpm_check.specs.inner.AllowReading.{IsFront, behind_these, lines_left}
 use Rattle.tpm_check.proofs.allow_lines.read_allowed.Given as goal
 
 -- how many bytes are left at most, and one more where there is a line
@@ -15,6 +16,7 @@ invariant-loop-left l = record {
   few : length l.found.items ≤ l.number;
   found : behind_these l.found.items (allowed_from (l.number + 1) (lines_left (option_map (λ b. b.now) l.left)))
       ≡ allowed_in l.bytes;
+  last : IfSome l.last IsFront;
 }
 
 abbrev pub decreases-loop-left : goal.decreases-loop-left
