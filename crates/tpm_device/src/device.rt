@@ -11,7 +11,7 @@ ghost use Rattle.tpm_device.specs.inner.Performing.{MayBePerformed, IsPerformed}
 ghost use Rattle.tpm_device.specs.inner.Actions.{IsActed};
 ghost use Rattle.tpm_device.specs.inner.Answers.{given, told};
 
-use crate::bare::bare;
+use crate::bare::{bare, selections};
 use crate::checks::{check_started, check_tag};
 use crate::reading::read_params;
 use crate::response::{RESPONSE_BYTES, ResponseBuffer, put_refusal};
@@ -130,9 +130,8 @@ impl Device {
         }
     }
 
-    // As `acted`, of few parameters (`bare`); and otherwise nothing is done: a TPM2_NV_Read takes half a unit so
-    // (docs/SPEED.md). It is out of line, so that what it makes is off the stack before the longest parameters are
-    // decoded.
+    // As `acted`, of parameters that are read by value; and otherwise nothing is done. It is out of line, so that what
+    // it makes is off the stack before the longest parameters are decoded.
     #[inline(never)]
     fn acted_on_few(
         &mut self,
@@ -150,7 +149,9 @@ impl Device {
         ensures none { IfNone result (self.new ≡ self.old) }
     {
         if matches!(areas.code(), CommandCode::PcrRead) {
-            return self.acted_on_selections(areas, nonce, body);
+            let selections = selections(areas.params())?;
+            self.read_registers(&selections, body);
+            return Some(Ok(()));
         }
         match bare(areas.code(), areas.params()) {
             Some(params) => Some(self.act(areas.handles(), &params, nonce, body)),

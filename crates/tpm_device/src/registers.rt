@@ -1,38 +1,17 @@
 //! What the commands on registers do (Part 3, 9.3 and 22).
 
-ghost use Rattle.std.specs.Prelude.{◌≡◌, ◌≤◌, ℕ, List, length, Ok, IfNone, IfSome, OnOk, OnErr};
-ghost use Rattle.tpm_wire.specs.Reading.{read_all};
-ghost use Rattle.tpm_types.specs.declared.command_code.CommandCode.TheVariants as codes;
+ghost use Rattle.std.specs.Prelude.{◌≡◌, ℕ, List, Ok, OnOk, OnErr};
 ghost use Rattle.tpm_commands.specs.declared.command.CommandBody.TheVariants as bodies;
-ghost use Rattle.tpm_commands.specs.declared.command.Params.TheVariants as params;
 ghost use Rattle.tpm_commands.specs.declared.command.ReplyBody.TheVariants as replies;
-ghost use Rattle.tpm_commands.specs.Parameters.{parameters};
 ghost use Rattle.tpm_model.specs.Actions.{action};
 ghost use Rattle.tpm_device.specs.Stands.{holds};
-ghost use Rattle.tpm_device.specs.inner.Actions.{acted, step_of, IsActed, Steps};
+ghost use Rattle.tpm_device.specs.inner.Actions.{acted, step_of, Steps};
 
 use crate::device::Device;
-use tpm_buffer::Areas;
 use tpm_commands::{Event, ReplyBody};
 use tpm_pcr::event_digests;
 use tpm_types::{DigestValues, Digests, PcrIndex, PcrOrNull, Selections, StartupType};
 use tpm_wire::response_code::{VALUE, of_parameter};
-use tpm_wire::{Cursor, Wire};
-
-// The registers of TPM2_PCR_Read, where the bytes spell them: by value, in the room of no other parameters.
-#[tactic(auto, unfolding(tpm_commands::specs::Commands::Pcr::pcr_read))]
-#[inline(always)]
-fn selections(bytes: &[u8]) -> Option<Selections>
-    requires { length bytes.now ≤ 4096 }
-    ensures { IfSome result (λ s.
-        read_all (parameters codes.PcrRead) bytes.now ≡ Ok (params.PcrRead s)) }
-{
-    let mut cursor = Cursor::new(bytes);
-    cursor.number(of_parameter(1));
-    let selections = Selections::take(&mut cursor).ok()?;
-    cursor.end().ok()?;
-    Some(selections)
-}
 
 impl Device {
     // TPM2_Startup (Part 3, 9.3).
@@ -134,29 +113,5 @@ impl Device {
         {
             self.registers.select_into(selections, read, digests);
         }
-    }
-
-    /// As `acted_on_few`, where the command is TPM2_PCR_Read: its registers go into no room of parameters, which took a
-    /// quarter of its time.
-    #[inline]
-    pub(crate) fn acted_on_selections(
-        &mut self,
-        areas: &Areas<'_>,
-        nonce: &[u8; 64],
-        body: &mut ReplyBody,
-    ) -> Option<Result<(), u32>>
-        requires { areas.now.header.code ≡ codes.PcrRead }
-        ensures some { IfSome result (λ given. IsActed areas.now
-            (record {
-              old = self.old;
-              nonce = nonce.now;
-              reply = body.new;
-              new = self.new;
-            }) given) }
-        ensures none { IfNone result (self.new ≡ self.old) }
-    {
-        let selections = selections(areas.params())?;
-        self.read_registers(&selections, body);
-        Some(Ok(()))
     }
 }

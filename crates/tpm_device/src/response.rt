@@ -1,4 +1,7 @@
 //! The bytes of a response, in a buffer that has room for the longest.
+//!
+//! `put_reply_in` writes all replies but those for which no body is made (`put_bare`): by password a TPM2_PCR_Extend
+//! takes 886 ns so in place of 901, and the deepest stack by LLVM, in a session, is 80 bytes less.
 
 ghost use Rattle.std.specs.Prelude.{◌≡◌, ◌<◌, [], ◌∷◌, length, Err};
 ghost use Rattle.tpm_wire.specs.Spelling.{spelling};
