@@ -17,6 +17,8 @@ use Rattle.tpm_names.specs.Numbers.{IsDecimal, IsHexadecimal, IsPort, IsShortDec
 use Rattle.tpm_args.specs.Owner.{IsOwner, bytes_in}
 use Rattle.tpm_names.specs.Selections.{AreSelections, IsRegisterList}
 use Rattle.tpm_names.specs.declared.selection.RegisterList.{RegisterList}
+use Rattle.tpm_output.specs.declared.form.Form.TheVariants.{Lines, Json}
+use Rattle.tpm_output.specs.declared.form.Form.{Form}
 use Rattle.tpm_args.specs.declared.task.Task.TheVariants.{Show, ShowCapture, ShowPackets, ShowNv, Build, Run, Explain}
 use Rattle.tpm_args.specs.declared.task.Task.TheVariants.{ExplainName, Check, CheckListed, Events, EventsHeader}
 use Rattle.tpm_args.specs.declared.task.Task.{Task}
@@ -98,6 +100,10 @@ AreFiles value f =
 abbrev pub goes_with : (flag holds : Bool) → Bool
 goes_with flag holds = not flag || holds
 
+-- how what is printed is told
+abbrev pub form_asked : (Text → Option Text) → Form
+form_asked value = if is_given (value (codes "json")) then Json else Lines
+
 -- Neither a list of registers nor the information of a quote is given.
 abbrev pub has_neither : (Text → Option Text) → Bool
 has_neither value = not (is_some (value (codes "registers"))) && not (is_some (value (codes "quote")))
@@ -158,11 +164,11 @@ AreOptions value o =
     × (o.secure_boot ≡ is_given (value (codes "secure-boot")))
     × (o.any_state ≡ is_given (value (codes "any-state")))
     × (o.extends ≡ is_given (value (codes "extends")))
-    × (o.json ≡ is_given (value (codes "json")))
+    × (o.form ≡ form_asked value)
 
 -- a log, by itself
 abbrev pub IsLog : (Text → Option Text) → LogTask → Type 0
-IsLog value l = (value (codes "LOG") ≡ Some l.log.now) × (l.json ≡ is_given (value (codes "json")))
+IsLog value l = (value (codes "LOG") ≡ Some l.log.now) × (l.form ≡ form_asked value)
 
 -- what is listed of one
 abbrev pub IsListing : (Text → Option Text) → Listing → Type 0
@@ -171,7 +177,7 @@ IsListing value l =
     × (l.places ≡ is_given (value (codes "places")))
     × (l.digests ≡ is_given (value (codes "digests")))
     × (l.event_data ≡ is_given (value (codes "data")))
-    × (l.json ≡ is_given (value (codes "json")))
+    × (l.form ≡ form_asked value)
 
 -- standard input, by the word `-`, or a file
 abbrev pub IsInput : (word file : Option Text) → Type 0
@@ -193,13 +199,13 @@ AsksWith name value (ShowCapture c) =
     × (value (codes "reply") ≡ None)
     × (c.fields ≡ is_given (value (codes "fields")))
     × (value (codes "file") ≡ option_map (λ f. f.now) c.file) × IsInput (value (codes "HEX")) (value (codes "file"))
-    × (c.binary ≡ is_given (value (codes "binary"))) × (c.json ≡ is_given (value (codes "json")))
+    × (c.binary ≡ is_given (value (codes "binary"))) × (c.form ≡ form_asked value)
     × (value (codes "nv") ≡ None) × (value (codes "pcap") ≡ None) × (value (codes "port") ≡ None)
 AsksWith name value (ShowPackets p) =
     (name ≡ codes "show")
     × (value (codes "pcap") ≡ Some p.file.now) × IsPort (unwrap_or (value (codes "port")) (codes "2321")) p.port
     × (value (codes "reply") ≡ None)
-    × (p.fields ≡ is_given (value (codes "fields"))) × (p.json ≡ is_given (value (codes "json")))
+    × (p.fields ≡ is_given (value (codes "fields"))) × (p.form ≡ form_asked value)
     × (value (codes "HEX") ≡ None) × (value (codes "file") ≡ None)
     × (is_given (value (codes "binary")) ≡ false) × (value (codes "nv") ≡ None)
 AsksWith name value (ShowNv file) =

@@ -9,11 +9,11 @@ ghost use Rattle.tpm_types.specs.declared.tpms.Selection.{Selection as Selection
 ghost use Rattle.tpm_options.specs.declared.CheckOptions.{CheckOptions as CheckOptionsValue};
 ghost use Rattle.tpm_args.specs.inner.Stop.{IsAsked, IsMemoryOr};
 ghost use Rattle.tpm_args.specs.Task.{AreBytes, AreOptions, DigestsGoTogether, GoTogether, IsHash, IsHashIf};
-ghost use Rattle.tpm_args.specs.Task.{goes_with, has_neither, is_alone, is_uncompared};
-ghost use Rattle.tpm_args.specs.Task.{IsWith, IsWithEither, Requires, is_given as is_given_by};
+ghost use Rattle.tpm_args.specs.Task.{form_asked, goes_with, has_neither, is_alone, is_uncompared};
+ghost use Rattle.tpm_args.specs.Task.{IsWith, IsWithEither, Requires};
 
 use crate::bytes::bytes_in;
-use crate::given::is_given;
+use crate::given::{form_asked, is_given};
 use crate::invalid::{Subcommand, Usage, invalid_value, not_hexadecimal, wrong_words};
 use crate::stop::Stop;
 use crate::task::{Asked, Task};
@@ -49,11 +49,11 @@ pub(crate) fn check_task<'a>(alloc: Global, words: &ArgMatches<'a>) -> Asked<'a>
 /// This log, by itself.
 pub(crate) fn log_task<'a>(words: &ArgMatches<'a>, log: &'a str) -> LogTask<'a>
     ensures { (result.log ≡ log.entry)
-        × (result.json ≡ is_given_by (first_value (found_of words.now) (codes "json"))) }
+        × (result.form ≡ form_asked (first_value (found_of words.now))) }
 {
     LogTask {
         log,
-        json: is_given(words, "json"),
+        form: form_asked(words),
     }
 }
 
@@ -91,7 +91,7 @@ pub(crate) fn options<'a>(usage: Usage, words: &ArgMatches<'a>) -> Result<CheckO
         secure_boot: is_given(words, "secure-boot"),
         any_state: is_given(words, "any-state"),
         extends: is_given(words, "extends"),
-        json: is_given(words, "json"),
+        form: form_asked(words),
     })
 }
 

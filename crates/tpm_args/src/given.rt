@@ -7,7 +7,7 @@ ghost use Rattle.clap.specs.declared.error.kind.ErrorKind.TheVariants.{InvalidVa
 ghost use Rattle.tpm_words.specs.Program.{program_app};
 ghost use Rattle.tpm_args.specs.Stop.{StopsFor, Refuses};
 ghost use Rattle.tpm_args.specs.inner.Stop.{IsAsked, IsMemoryOr};
-ghost use Rattle.tpm_args.specs.Task.{is_given as is_given_by, is_bare, Asks, AsksNothing, AsksWith};
+ghost use Rattle.tpm_args.specs.Task.{is_given as is_given_by, is_bare, form_asked, Asks, AsksNothing, AsksWith};
 ghost use Rattle.tpm_args.specs.inner.Task.{AsksNothingWith};
 
 use crate::check::{check_flag, check_task, has, is_without, log_task, options};
@@ -25,6 +25,7 @@ use clap::{ArgMatches, Command, Error};
 use std::alloc::{AllocError, Global};
 use std::marker::Model;
 use tpm_options::{EventsTask, Listing};
+use tpm_output::form::Form;
 use tpm_words::program_words;
 
 /// The words of a run.
@@ -125,6 +126,17 @@ pub(crate) fn is_given(words: &ArgMatches<'_>, name: &str) -> bool
     }
 }
 
+/// How what is printed is told.
+pub(crate) fn form_asked(words: &ArgMatches<'_>) -> Form
+    ensures { result ≡ form_asked (first_value (found_of words.now)) }
+{
+    if is_given(words, "json") {
+        Form::Json
+    } else {
+        Form::Lines
+    }
+}
+
 fn build_task<'a>(words: &ArgMatches<'a>) -> Option<Task<'a>>
     ensures { MatchOption result
         (AsksNothingWith (codes "build") (first_value (found_of words.now)))
@@ -180,7 +192,7 @@ fn events_task<'a>(alloc: Global, words: &ArgMatches<'a>) -> Asked<'a>
         places: is_given(words, "places"),
         digests: is_given(words, "digests"),
         event_data: is_given(words, "data"),
-        json: is_given(words, "json"),
+        form: form_asked(words),
     };
     Ok(Some(Task::Events(EventsTask {
         log,

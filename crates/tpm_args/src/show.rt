@@ -6,7 +6,7 @@ ghost use Rattle.tpm_args.specs.inner.Stop.{IsAsked, IsMemoryOr};
 ghost use Rattle.tpm_args.specs.Task.{AsksWith, IsInput};
 ghost use Rattle.tpm_args.specs.inner.Task.{AsksNothingWith, HasNone};
 
-use crate::given::is_given;
+use crate::given::{form_asked, is_given};
 use crate::invalid::{Subcommand, invalid_value, no_command, wrong_words};
 use crate::name::command_named;
 use crate::stop::Stop;
@@ -38,7 +38,7 @@ fn shown_packets<'a>(words: &ArgMatches<'a>, file: &'a str) -> Option<Task<'a>>
         file,
         port: port(words.get_str("port").unwrap_or(PORT))?,
         fields: is_given(words, "fields"),
-        json: is_given(words, "json"),
+        form: form_asked(words),
     }))
 }
 
@@ -80,7 +80,7 @@ fn shown_capture<'a>(words: &ArgMatches<'a>, file: Option<&'a str>) -> Option<Ta
         file,
         binary: is_given(words, "binary"),
         fields: is_given(words, "fields"),
-        json: is_given(words, "json"),
+        form: form_asked(words),
     }))
 }
 

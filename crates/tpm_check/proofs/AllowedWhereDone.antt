@@ -317,7 +317,7 @@ held q allow (a ∷ list) read done = go (first_lacking (a ∷ list) q.selection
     found = extensions_in (Some (a ∷ list)) q.log.size (map shown q.log.records)
 
     go : (o : Option NotSelected) → first_lacking (a ∷ list) q.selections all_algs ≡ o
-        → (on_lacking q.json o (on_unknown q.json (a ∷ list) found)).status ≡ Done → IsHeld q allow
+        → (on_lacking q.form o (on_unknown q.form (a ∷ list) found)).status ≡ Done → IsHeld q allow
     go (Some r) is done = absurd (not_done (sym done))
     go None is done = record {
       list = a ∷ list;
@@ -358,7 +358,7 @@ module _ (o : CheckOptions) (signed allow bytes : List ℕ) (l : ParsedLog) (fou
   }
 
   module _ (a : Accepted o (value_in found.banks) signed) (selections : List Selection) (selects : Selects signed selections)
-      (h : IsHeld (record { json = o.json; selections = selections; log = l }) allow) where
+      (h : IsHeld (record { form = o.form; selections = selections; log = l }) allow) where
     abbrev listed : ListedLog
     listed = record { list = h.list; signed = a.quote; hash = a.hash; log = quoted_log a }
 
@@ -393,14 +393,14 @@ module _ (o : CheckOptions) (signed allow bytes : List ℕ) (l : ParsedLog) (fou
     where
       go : (s : Status) → first.status ≡ s
           → OnDone s ((second : Verdict) × SaysBehind o (record { attest = signed; allow = Some allow }) l second
-          × Says (ended o.json (behind first second)) Done text) (Says (ended o.json first) Done text)
+          × Says (ended o.form (behind first second)) Done text) (Says (ended o.form first) Done text)
           → AllowedByQuote o signed allow bytes
       go Refused is ends = absurd (not_done (ends.0 ∙ is))
       go Done is (second, (selections, selects, (last, list, behind_boot)), ends) =
           let second_done = (both_done first.status second.status (sym ends.0)).1 in
           let last_done = (both_done (on_boot o.secure_boot o selections l).status last.status (sym behind_boot.0 ∙ second_done)).1 in
-          all_are (accepted (beside o.json (value_in found.banks)) o signed first checks is) selections selects
-          (held_of_list (record { json = o.json; selections = selections; log = l }) allow last list last_done)
+          all_are (accepted (beside o.form (value_in found.banks)) o signed first checks is) selections selects
+          (held_of_list (record { form = o.form; selections = selections; log = l }) allow last list last_done)
 
 pub allowed_done : (o : CheckOptions) (signed allow bytes text : List ℕ)
     → ChecksBoot (record { options = o; attest = Some signed; allow = Some allow }) bytes Done text → AllowedByQuote o signed allow bytes

@@ -38,6 +38,6 @@ module _ (b : Beside) (a : Asked) (bytes : Option (List ℕ)) (first : Status) (
 
 -- What is told to its end, with a status that is the same.
 pub to_end : (b : Beside) (a : Asked) (bytes : Option (List ℕ)) (same status : Status) (told : List ℕ) → same ≡ status
-    → ChecksAll b a bytes (printed status told) → ChecksToEnd b a bytes (printed same (told ++ ok_text b.json status))
+    → ChecksAll b a bytes (printed status told) → ChecksToEnd b a bytes (printed same (told ++ ok_text b.form status))
 to_end b a bytes same status told is checks =
-    subst (λ (s : Status). ChecksToEnd b a bytes (printed s (told ++ ok_text b.json status))) (sym is) (told, checks, refl)
+    subst (λ (s : Status). ChecksToEnd b a bytes (printed s (told ++ ok_text b.form status))) (sym is) (told, checks, refl)

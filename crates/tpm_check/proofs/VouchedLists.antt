@@ -33,14 +33,14 @@ same_verdict v status text says =
 pub lists : (q : Quoted) (bytes : List ℕ) (found : Registers) (hashes : List AlgorithmSize) (records : List LogRecord) (size : ℕ)
     (said : Verdict) (first status : Status) (before text : List ℕ)
     → Spells log (hashes, records) bytes → size ≡ length bytes → Replays AreAfter bytes (Ok found)
-    → ChecksAttest (beside q.listing.json (value_in found.banks)) q.options q.attest said
-    → Says (ended q.listing.json said) first before
+    → ChecksAttest (beside q.listing.form (value_in found.banks)) q.options q.attest said
+    → Says (ended q.listing.form said) first before
     → IsFollowed q.attest (λ selections. events_from q.listing (Some selections) size 1 (map shown records)) (printed first before) (printed status text)
     → ListsVouched q bytes status text
 lists q bytes found hashes records size said first status before text spells is replays checks says follows =
     let from : ℕ → List Selection → List ℕ = λ n selections. events_from q.listing (Some selections) n 1 (map shown records) in
-    let told : IsFollowed q.attest (from size) (ended q.listing.json said) (printed status text) =
-    subst (λ (v : Verdict). IsFollowed q.attest (from size) v (printed status text)) (same_verdict (ended q.listing.json said) first before says) follows in
-    let whole : IsFollowed q.attest (from (length bytes)) (ended q.listing.json said) (printed status text) =
-    subst (λ (n : ℕ). IsFollowed q.attest (from n) (ended q.listing.json said) (printed status text)) is told in
+    let told : IsFollowed q.attest (from size) (ended q.listing.form said) (printed status text) =
+    subst (λ (v : Verdict). IsFollowed q.attest (from size) v (printed status text)) (same_verdict (ended q.listing.form said) first before says) follows in
+    let whole : IsFollowed q.attest (from (length bytes)) (ended q.listing.form said) (printed status text) =
+    subst (λ (n : ℕ). IsFollowed q.attest (from n) (ended q.listing.form said) (printed status text)) is told in
     inl (hashes, records, found, said, spells, replays, checks, whole)

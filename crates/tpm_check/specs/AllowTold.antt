@@ -11,16 +11,16 @@ use Rattle.tpm_pcr.specs.Registers.{all_registers}
 use Rattle.tpm_quote.specs.Attests.{is_among, register_of}
 use Rattle.tpm_vouched.specs.declared.allowed.AllowedDigest.{AllowedDigest}
 use Rattle.tpm_vouched.specs.Allowed.{names}
+use Rattle.tpm_output.specs.declared.form.Form.{Form}
 use Rattle.tpm_output.specs.declared.status.Status.TheVariants.{Done, Refused}
 use Rattle.tpm_output.specs.declared.status.Status.{Status}
-use Rattle.tpm_output.specs.Fields.{as_line}
+use Rattle.tpm_output.specs.Form.{told_by}
 use Rattle.tpm_output.specs.Marks.{Bytes, Mark, Number, Says as SaysOf, Truth, Word}
 use Rattle.tpm_output.specs.Telling.{says}
-use Rattle.tpm_output.specs.Text.{line}
 use Rattle.tpm_event_marks.specs.Names.{type_value}
 use Rattle.tpm_check.specs.CheckAttest.{marks_of_lacks}
-use Rattle.tpm_check.specs.CheckJson.{rendered, told_as}
-use Rattle.tpm_check.specs.Compare.{Verdict, no_register_text}
+use Rattle.tpm_check.specs.CheckJson.{rendered}
+use Rattle.tpm_check.specs.Compare.{Verdict, fault_told}
 use Rattle.tpm_check.specs.Extensions.{Extension, is_of}
 
 -- ---- a digest that isn't on the list
@@ -38,12 +38,12 @@ marks_of_unknown x =
     ∷ says (codes "allowed") (Truth false) ∷ says (codes "at") (Number x.at)
     ∷ says (codes "digest") (Bytes x.digest) ∷ says (codes "type") (type_value x.kind) ∷ []
 
-abbrev pub unknown_text : (json : Bool) → Extension → List ℕ
-unknown_text json x = told_as json (as_line (words_of_unknown x)) (marks_of_unknown x)
+abbrev pub unknown_text : Form → Extension → List ℕ
+unknown_text form x = told_by form (words_of_unknown x) (marks_of_unknown x)
 
 -- where it is of this register of the bank
-abbrev pub unknown_if : (json : Bool) → Alg → (register : ℕ) → Extension → List ℕ
-unknown_if json bank register x = if is_of bank register x then unknown_text json x else []
+abbrev pub unknown_if : Form → Alg → (register : ℕ) → Extension → List ℕ
+unknown_if form bank register x = if is_of bank register x then unknown_text form x else []
 
 -- ---- a register
 
@@ -57,28 +57,27 @@ marks_of_allowed bank register =
     says (codes "bank") (Word (alg_name bank)) ∷ says (codes "register") (Number register)
     ∷ says (codes "allowed") (Truth true) ∷ []
 
-abbrev pub allowed_text : (json : Bool) → Alg → (register : ℕ) → List ℕ
-allowed_text json bank register =
-    told_as json (as_line (words_of_allowed bank register)) (marks_of_allowed bank register)
+abbrev pub allowed_text : Form → Alg → (register : ℕ) → List ℕ
+allowed_text form bank register = told_by form (words_of_allowed bank register) (marks_of_allowed bank register)
 
 -- a register that the list names, by all that aren't on it
-abbrev pub named_told : (json : Bool) → List Extension → Alg → (register : ℕ) → List ℕ
-named_told json found bank register =
-    if list_any (is_of bank register) found then flat_map (unknown_if json bank register) found
-    else allowed_text json bank register
+abbrev pub named_told : Form → List Extension → Alg → (register : ℕ) → List ℕ
+named_told form found bank register =
+    if list_any (is_of bank register) found then flat_map (unknown_if form bank register) found
+    else allowed_text form bank register
 
-abbrev pub register_told : (json : Bool) → List AllowedDigest → List Extension → Alg → (register : ℕ) → List ℕ
-register_told json list found bank register =
-    if names list bank register then named_told json found bank register else []
+abbrev pub register_told : Form → List AllowedDigest → List Extension → Alg → (register : ℕ) → List ℕ
+register_told form list found bank register =
+    if names list bank register then named_told form found bank register else []
 
 -- those of a bank's first registers, so many of them, which the list names
-abbrev pub bank_told : (json : Bool) → List AllowedDigest → List Extension → Alg → ℕ → List ℕ
-bank_told json list found bank zero = []
-bank_told json list found bank (suc n) =
-    bank_told json list found bank n ++ register_told json list found bank n
+abbrev pub bank_told : Form → List AllowedDigest → List Extension → Alg → ℕ → List ℕ
+bank_told form list found bank zero = []
+bank_told form list found bank (suc n) =
+    bank_told form list found bank n ++ register_told form list found bank n
 
-abbrev pub banks_told : (json : Bool) → List AllowedDigest → List Extension → List ℕ
-banks_told json list found = flat_map (λ bank. bank_told json list found bank 24) all_algs
+abbrev pub banks_told : Form → List AllowedDigest → List Extension → List ℕ
+banks_told form list found = flat_map (λ bank. bank_told form list found bank 24) all_algs
 
 -- ---- a list
 
@@ -88,17 +87,17 @@ status_of_unknown [] = Done
 status_of_unknown (x ∷ xs) = Refused
 
 -- by those that aren't on it
-abbrev pub on_unknown : (json : Bool) → List AllowedDigest → List Extension → Verdict
-on_unknown json list found = record { status = status_of_unknown found; text = banks_told json list found }
+abbrev pub on_unknown : Form → List AllowedDigest → List Extension → Verdict
+on_unknown form list found = record { status = status_of_unknown found; text = banks_told form list found }
 
 -- a register that the list names and that isn't selected
-abbrev pub lacking_text : (json : Bool) → NotSelected → List ℕ
-lacking_text json r = rendered json (marks_of_lacks json r)
+abbrev pub lacking_text : Form → NotSelected → List ℕ
+lacking_text form r = rendered form (marks_of_lacks form r)
 
 -- the first of those, or else what is said of the records
-abbrev pub on_lacking : (json : Bool) → Option NotSelected → Verdict → Verdict
-on_lacking json (Some r) v = record { status = Refused; text = lacking_text json r }
-on_lacking json None v = v
+abbrev pub on_lacking : Form → Option NotSelected → Verdict → Verdict
+on_lacking form (Some r) v = record { status = Refused; text = lacking_text form r }
+on_lacking form None v = v
 
 -- The list names the register of the bank, and it isn't selected.
 abbrev pub is_lacking : List AllowedDigest → List Selection → Alg → (register : ℕ) → Bool
@@ -114,11 +113,6 @@ first_lacking list quoted (bank ∷ banks) =
     option_or (first_lacking_of list quoted bank) (first_lacking list quoted banks)
 
 -- a list without a digest, and any other
-abbrev pub on_list : (json : Bool) → List AllowedDigest → (lacking : Option NotSelected) → Verdict → Verdict
-on_list json [] lacking v = record { status = Refused; text = no_register_text json false }
-on_list json (digest ∷ digests) lacking v = on_lacking json lacking v
-
--- where it has more bytes than one may have
-abbrev pub too_long_text : (json : Bool) → List ℕ
-too_long_text false = line (codes "list" ∷ codes "too" ∷ codes "long" ∷ [])
-too_long_text true = codes "{\"fault\":\"list too long\"}\n"
+abbrev pub on_list : Form → List AllowedDigest → (lacking : Option NotSelected) → Verdict → Verdict
+on_list form [] lacking v = record { status = Refused; text = fault_told form (codes "no register") }
+on_list form (digest ∷ digests) lacking v = on_lacking form lacking v

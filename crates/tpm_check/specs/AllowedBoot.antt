@@ -1,5 +1,5 @@
 -- What is printed of a log beside a quote, and a list of allowed digests (this profile).
-use Rattle.std.specs.Prelude.{◌⊎◌, ℕ, Bool, true, false, nat_lt, List, [], length, map, Ok, Err}
+use Rattle.std.specs.Prelude.{◌⊎◌, ℕ, Bool, true, false, nat_lt, List, [], length, map, codes, Ok, Err}
 use Rattle.std.specs.Prelude.{Option, Some, None}
 use Rattle.tpm_types.specs.declared.tpms.Selection.{Selection}
 use Rattle.tpm_types.specs.Alg.{all_algs}
@@ -9,13 +9,14 @@ use Rattle.tpm_log.specs.Events.{ParsedLog, Parses, shown}
 use Rattle.tpm_log.specs.Replays.{Replays}
 use Rattle.tpm_vouched.specs.declared.allowed.AllowedDigest.{AllowedDigest}
 use Rattle.tpm_options.specs.declared.CheckOptions.{CheckOptions}
+use Rattle.tpm_output.specs.declared.form.Form.{Form}
 use Rattle.tpm_output.specs.declared.status.Status.TheVariants.{Done, Refused}
 use Rattle.tpm_output.specs.declared.status.Status.{Status}
 use Rattle.tpm_output.specs.InputLines.{most_bytes}
 use Rattle.tpm_check.specs.AllowLines.{AllowRead, allowed_in}
-use Rattle.tpm_check.specs.AllowTold.{first_lacking, on_list, on_unknown, too_long_text}
+use Rattle.tpm_check.specs.AllowTold.{first_lacking, on_list, on_unknown}
 use Rattle.tpm_check.specs.CheckAttest.{ChecksAttest, OnDone, Says, Selects, behind}
-use Rattle.tpm_check.specs.Compare.{Verdict, beside, not_a_register_text, printed}
+use Rattle.tpm_check.specs.Compare.{Verdict, beside, fault_told, not_a_register_text, printed}
 use Rattle.tpm_check.specs.Extensions.{Extension, extensions_in}
 use Rattle.tpm_check.specs.SecureBootLines.{TellsFault, ended, on_log, quoted_banks}
 
@@ -23,18 +24,18 @@ use Rattle.tpm_check.specs.SecureBootLines.{TellsFault, ended, on_log, quoted_ba
 
 -- what a list is held against: what a quote selects, and the log beside which it is the one that was asked for
 pub record VouchedLog : Type 0 where
-  pub json : Bool
+  pub form : Form
   pub selections : List Selection
   pub log : ParsedLog
 
 -- by the digests of the log that aren't on it
-abbrev pub on_found : (json : Bool) → List AllowedDigest → List Selection → List Extension → Verdict
-on_found json list selections found =
-    on_list json list (first_lacking list selections all_algs) (on_unknown json list found)
+abbrev pub on_found : Form → List AllowedDigest → List Selection → List Extension → Verdict
+on_found form list selections found =
+    on_list form list (first_lacking list selections all_algs) (on_unknown form list found)
 
 abbrev pub on_digests : VouchedLog → List AllowedDigest → Verdict
 on_digests q list =
-    on_found q.json list q.selections (extensions_in (Some list) q.log.size (map shown q.log.records))
+    on_found q.form list q.selections (extensions_in (Some list) q.log.size (map shown q.log.records))
 
 abbrev pub refused : List ℕ → Verdict
 refused text = record { status = Refused; text = text }
@@ -42,7 +43,7 @@ refused text = record { status = Refused; text = text }
 -- Of a list its digests, or else the first line that is wrong.
 abbrev pub SaysOfRead : VouchedLog → AllowRead → Verdict → Type 0
 SaysOfRead q (Ok digests) v = Says (on_digests q digests) v.status v.text
-SaysOfRead q (Err number) v = Says (refused (not_a_register_text q.json number)) v.status v.text
+SaysOfRead q (Err number) v = Says (refused (not_a_register_text q.form number)) v.status v.text
 
 -- The one holds of a list that is too long, and else the other.
 abbrev pub OnLong : (is_long : Bool) → Type 0 → Type 0 → Type 0
@@ -52,7 +53,7 @@ OnLong false P Q = Q
 abbrev pub SaysOfList : VouchedLog → List ℕ → Verdict → Type 0
 SaysOfList q bytes v =
     OnLong (nat_lt most_bytes (length bytes))
-    (Says (refused (too_long_text q.json)) v.status v.text)
+    (Says (refused (fault_told q.form (codes "list too long"))) v.status v.text)
     (SaysOfRead q (allowed_in bytes) v)
 
 -- ---- a log
@@ -70,7 +71,7 @@ abbrev pub SaysOfSelected : CheckOptions → (allow : Option (List ℕ)) → Lis
 SaysOfSelected o None selections l v = Says (on_boot true o selections l) v.status v.text
 SaysOfSelected o (Some allow) selections l v =
     (last : Verdict)
-    × SaysOfList (record { json = o.json; selections = selections; log = l }) allow last
+    × SaysOfList (record { form = o.form; selections = selections; log = l }) allow last
     × Says (behind (on_boot o.secure_boot o selections l) last) v.status v.text
 
 -- the bytes of a quote as it was signed, and those of a list, where there is one
@@ -87,10 +88,10 @@ SaysBehind o g l v =
 abbrev pub SaysBeside : CheckOptions → QuoteFiles → Registers → ParsedLog → Verdict → Type 0
 SaysBeside o g found l v =
     (first : Verdict)
-    × ChecksAttest (beside o.json (value_in found.banks)) o g.attest first
+    × ChecksAttest (beside o.form (value_in found.banks)) o g.attest first
     × OnDone first.status
-    ((second : Verdict) × SaysBehind o g l second × Says (ended o.json (behind first second)) v.status v.text)
-    (Says (ended o.json first) v.status v.text)
+    ((second : Verdict) × SaysBehind o g l second × Says (ended o.form (behind first second)) v.status v.text)
+    (Says (ended o.form first) v.status v.text)
 
 -- That is printed of a log, and else its fault. Behind that stands the status, where it is told as objects.
 abbrev pub ChecksBeside : CheckOptions → QuoteFiles → List ℕ → Status → List ℕ → Type 0
@@ -99,4 +100,4 @@ ChecksBeside o g bytes status text =
     × Parses bytes (Ok l)
     × Replays AreAfter bytes (Ok found)
     × SaysBeside o g found l (printed status text))
-    ⊎ TellsFault o.json bytes status text
+    ⊎ TellsFault o.form bytes status text

@@ -13,6 +13,8 @@ use Rattle.tpm_types.specs.Attest.{attest}
 use Rattle.tpm_quote.specs.declared.attest.NotSelected.{NotSelected}
 use Rattle.tpm_quote.specs.Attests.{first_not_selected, registers_of}
 use Rattle.tpm_options.specs.declared.CheckOptions.{CheckOptions}
+use Rattle.tpm_output.specs.declared.form.Form.TheVariants.{Lines, Json}
+use Rattle.tpm_output.specs.declared.form.Form.{Form}
 use Rattle.tpm_output.specs.declared.status.Status.TheVariants.{Done, Refused}
 use Rattle.tpm_output.specs.declared.status.Status.{Status}
 use Rattle.tpm_output.specs.Marks.{Mark, Number, Says as SaysOf, Word}
@@ -76,31 +78,31 @@ marks_of_signer None = []
 marks_of_signer (Some same) = says (codes "signer") (Word (verdict_word (Some same) (codes "not compared"))) ∷ []
 
 -- in a line as further words, and else as an object of its own
-abbrev pub marks_of_lacks : (json : Bool) → NotSelected → List Mark
-marks_of_lacks false r =
+abbrev pub marks_of_lacks : Form → NotSelected → List Mark
+marks_of_lacks Lines r =
     list (codes "selection") (
     SaysOf None (Word (codes "lacks")) ∷ SaysOf None (Word (alg_name r.bank)) ∷ SaysOf None (Number r.register) ∷ [])
-marks_of_lacks true r =
+marks_of_lacks Json r =
     says (codes "selection") (Word (codes "lacks"))
     ∷ object (codes "lacks") (
     says (codes "bank") (Word (alg_name r.bank)) ∷ says (codes "register") (Number r.register) ∷ [])
 
-abbrev pub marks_of_selected : (json : Bool) → Selected → List Mark
-marks_of_selected json (selects.Lacks r) = marks_of_lacks json r
-marks_of_selected json selects.Covers = says (codes "selection") (Word (codes "covers")) ∷ []
-marks_of_selected json selects.Empty = says (codes "selection") (Word (codes "empty")) ∷ []
-marks_of_selected json selects.NotCompared = says (codes "selection") (Word (codes "not compared")) ∷ []
+abbrev pub marks_of_selected : Form → Selected → List Mark
+marks_of_selected form (selects.Lacks r) = marks_of_lacks form r
+marks_of_selected form selects.Covers = says (codes "selection") (Word (codes "covers")) ∷ []
+marks_of_selected form selects.Empty = says (codes "selection") (Word (codes "empty")) ∷ []
+marks_of_selected form selects.NotCompared = says (codes "selection") (Word (codes "not compared")) ∷ []
 
 -- what the quote says, and the verdicts on its signer, its nonce, its selection and its digest
-abbrev pub marks_of_judged : (json : Bool) → Attest → Judged → List Mark
-marks_of_judged json a j =
+abbrev pub marks_of_judged : Form → Attest → Judged → List Mark
+marks_of_judged form a j =
     marks_of_attest a ++ (marks_of_signer j.signer
     ++ (says (codes "nonce") (Word (verdict_word j.nonce (codes "not compared")))
-    ∷ (marks_of_selected json j.selection ++ mark_of_quote j.quote ∷ [])))
+    ∷ (marks_of_selected form j.selection ++ mark_of_quote j.quote ∷ [])))
 
 abbrev pub on_attest : Beside → CheckOptions → Attest → Verdict
 on_attest b o a = let j = judged b o a in
-    record { status = status_if (is_asked_for o j); text = rendered b.json (marks_of_judged b.json a j) }
+    record { status = status_if (is_asked_for o j); text = rendered b.form (marks_of_judged b.form a j) }
 
 abbrev pub behind : Verdict → Verdict → Verdict
 behind v w = record { status = both v.status w.status; text = v.text ++ w.text }
@@ -130,7 +132,7 @@ abbrev pub ChecksAttest : Beside → CheckOptions → List ℕ → Verdict → T
 ChecksAttest b o bytes v =
     ((a : Attest) × Spells attest a bytes × Says (on_attest b o a) v.status v.text)
     ⊎ ((refusal : Refusal) × Fault attest bytes refusal × (v.status ≡ Refused)
-    × (v.text ≡ refusal_text b.json refusal (hint bytes)))
+    × (v.text ≡ refusal_text b.form refusal (hint bytes)))
 
 -- ---- behind it
 

@@ -25,7 +25,7 @@ ChecksSigned b a v =
 -- the registers, where they are compared with nothing
 abbrev pub registers_if : Beside → (others : Bool) → List ℕ
 registers_if b true = []
-registers_if b false = registers_told b.json b.value all_algs
+registers_if b false = registers_told b.form b.value all_algs
 
 -- What the information of a quote says comes last, where there is one, and else the registers, beside nothing else.
 abbrev pub ChecksValues : Beside → CheckOptions → (others : Bool) → Verdict → Type 0
@@ -55,7 +55,7 @@ ChecksAll b a list v =
 -- Behind that stands the status, where it is told as objects.
 abbrev pub ChecksToEnd : Beside → Asked → (list : Option (List ℕ)) → Verdict → Type 0
 ChecksToEnd b a list v =
-    (told : List ℕ) × ChecksAll b a list (printed v.status told) × (v.text ≡ told ++ ok_text b.json v.status)
+    (told : List ℕ) × ChecksAll b a list (printed v.status told) × (v.text ≡ told ++ ok_text b.form v.status)
 
 -- what a log is checked for, beside a list by what was to come of it and what is
 pub record Checking : Type 0 where
@@ -65,10 +65,10 @@ pub record Checking : Type 0 where
 
 -- For what the log gives this is the status and the text. A fault ends the output, and a list is not read behind it.
 abbrev pub ChecksLog : Checking → Result Registers LogFault → Status → List ℕ → Type 0
-ChecksLog k (Ok found) status text = let b = beside k.asked.options.json (value_in found.banks) in
+ChecksLog k (Ok found) status text = let b = beside k.asked.options.form (value_in found.banks) in
     (list : Option (List ℕ))
     × ReadsIfList b k.list k.list-behind list
     × ChecksToEnd b k.asked list (printed status text)
-ChecksLog k (Err fault) status text = let json = k.asked.options.json in
+ChecksLog k (Err fault) status text = let form = k.asked.options.form in
     (k.list-behind ≡ k.list) × IsOfBytes fault.kind × (status ≡ Refused)
-    × (text ≡ fault_text json fault ++ ok_text json Refused)
+    × (text ≡ fault_text form fault ++ ok_text form Refused)

@@ -10,10 +10,15 @@ use Rattle.tpm_types.specs.declared.alg.Alg.{Alg}
 use Rattle.tpm_types.specs.Alg.{all_algs, digest_len}
 use Rattle.tpm_check.specs.declared.list_lines.Heading.TheVariants.{NoBank, Bank, OtherBank}
 use Rattle.tpm_check.specs.declared.list_lines.Heading.{Heading}
+use Rattle.tpm_output.specs.declared.form.Form.{Form}
+use Rattle.tpm_output.specs.declared.mark.Shape.TheVariants as shape
 use Rattle.tpm_output.specs.declared.status.Status.TheVariants.{Done, Refused}
 use Rattle.tpm_output.specs.declared.status.Status.{Status}
+use Rattle.tpm_output.specs.Form.{told_by}
+use Rattle.tpm_output.specs.Marks.{Closes, Mark, Number, Opens, Part, Says, Truth, Word}
 use Rattle.tpm_output.specs.Status.{both}
-use Rattle.tpm_output.specs.Text.{bytes_in, line}
+use Rattle.tpm_output.specs.Telling.{says}
+use Rattle.tpm_output.specs.Text.{bytes_in}
 use Rattle.tpm_types.specs.Alg.{alg_name}
 use Rattle.tpm_output.specs.InputLines.{lines_of, HasNoFeed, AreEnded, most_bytes, most_piece}
 
@@ -153,34 +158,48 @@ lines_under heading (first ∷ others) = let line = line_under heading first in
 
 -- ---- what is printed of a list
 
--- registers by their values, and whether what is said of them is told as objects of JSON in place of lines
+-- registers by their values, and how what is said of them is told
 pub record Beside : Type 0 where
-  pub json : Bool
+  pub form : Form
   pub value : Values
 
-abbrev pub beside : (json : Bool) → Values → Beside
-beside json value = record { json = json; value = value }
-
--- a truth in JSON (RFC 8259, 3)
-abbrev pub truth : Bool → List ℕ
-truth true = codes "true"
-truth false = codes "false"
+abbrev pub beside : Form → Values → Beside
+beside form value = record { form = form; value = value }
 
 abbrev pub compared_word : Bool → List ℕ
 compared_word true = codes "match"
 compared_word false = codes "differs"
 
--- whether a register has the value: its line, or its object
-unfoldable pub compared_text : (json same : Bool) → Alg → ℕ → List ℕ
-compared_text false same bank register = line (compared_word same ∷ alg_name bank ∷ decimal register ∷ [])
-compared_text true same bank register =
-    codes "{\"bank\":\"" ++ (alg_name bank ++ (codes "\",\"register\":" ++ (decimal register
-    ++ (codes ",\"match\":" ++ (truth same ++ codes "}\n")))))
+-- whether a register has the value
+abbrev pub words_of_compared : (same : Bool) → Alg → ℕ → List Mark
+words_of_compared same bank register =
+    map (Says None) (Word (compared_word same) ∷ Word (alg_name bank) ∷ Number register ∷ [])
 
-unfoldable pub not_a_register_text : (json : Bool) → ℕ → List ℕ
-not_a_register_text false n =
-    line (codes "line" ∷ (decimal n ++ codes ":") ∷ codes "not" ∷ codes "a" ∷ codes "register" ∷ [])
-not_a_register_text true n = codes "{\"fault\":\"not a register\",\"line\":" ++ (decimal n ++ codes "}\n")
+abbrev pub marks_of_compared : (same : Bool) → Alg → ℕ → List Mark
+marks_of_compared same bank register =
+    says (codes "bank") (Word (alg_name bank)) ∷ says (codes "register") (Number register)
+    ∷ says (codes "match") (Truth same) ∷ []
+
+-- its line, or its object
+unfoldable pub compared_text : Form → (same : Bool) → Alg → ℕ → List ℕ
+compared_text form same bank register =
+    told_by form (words_of_compared same bank register) (marks_of_compared same bank register)
+
+-- that the line of this number states none
+abbrev pub words_of_wrong : ℕ → List Mark
+words_of_wrong n =
+    Says None (Word (codes "line")) ∷ Opens None shape.Text ∷ Part (Number n) ∷ Part (Word (codes ": not a register"))
+    ∷ Closes shape.Text ∷ []
+
+abbrev pub marks_of_wrong : ℕ → List Mark
+marks_of_wrong n = says (codes "fault") (Word (codes "not a register")) ∷ says (codes "line") (Number n) ∷ []
+
+unfoldable pub not_a_register_text : Form → ℕ → List ℕ
+not_a_register_text form n = told_by form (words_of_wrong n) (marks_of_wrong n)
+
+-- what else is wrong, in these words
+unfoldable pub fault_told : Form → (fault : List ℕ) → List ℕ
+fault_told form fault = told_by form (Says None (Word fault) ∷ []) (says (codes "fault") (Word fault) ∷ [])
 
 abbrev pub status_if : Bool → Status
 status_if true = Done
@@ -206,12 +225,12 @@ is_value value s = bytes_eq (value s.bank s.register) s.value
 abbrev pub comparison_of : Beside → ℕ → ListLine → Comparison → Comparison
 comparison_of b n (States s) rest = let same = is_value b.value s in
     record {
-      text = compared_text b.json same s.bank s.register ++ rest.text;
+      text = compared_text b.form same s.bank s.register ++ rest.text;
       status = option_map (both (status_if same)) rest.status;
     }
 comparison_of b n (Heads heading) rest = rest
 comparison_of b n Passes rest = rest
-comparison_of b n Wrong rest = record { text = not_a_register_text b.json n; status = None }
+comparison_of b n Wrong rest = record { text = not_a_register_text b.form n; status = None }
 
 -- Of these lines the first has number n.
 abbrev pub comparison_from : Beside → ℕ → List ListLine → Comparison
@@ -232,17 +251,16 @@ abbrev pub states_any : List ℕ → Bool
 states_any bytes = list_any is_statement (lines_under NoBank (lines_of bytes))
 
 -- where no line does
-abbrev pub no_register_text : (json any : Bool) → List ℕ
-no_register_text json true = []
-no_register_text false false = line (codes "no" ∷ codes "register" ∷ [])
-no_register_text true false = codes "{\"fault\":\"no register\"}\n"
+abbrev pub no_register_text : Form → (any : Bool) → List ℕ
+no_register_text form true = []
+no_register_text form false = fault_told form (codes "no register")
 
 -- of a whole list, and of none, which says nothing
 abbrev pub compared : Beside → Option (List ℕ) → Comparison
 compared b None = record { text = []; status = Some Done }
 compared b (Some bytes) = let c = comparison b bytes in let any = states_any bytes in
     record {
-      text = c.text ++ (if is_some c.status then no_register_text b.json any else []);
+      text = c.text ++ (if is_some c.status then no_register_text b.form any else []);
       status = option_map (λ status. both status (status_if any)) c.status;
     }
 

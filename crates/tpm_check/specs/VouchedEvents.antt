@@ -41,11 +41,11 @@ ListsVouched q bytes status text =
     ((hashes : List AlgorithmSize) × (records : List LogRecord) × (found : Registers) × (said : Verdict)
     × Spells log (hashes, records) bytes
     × Replays AreAfter bytes (Ok found)
-    × ChecksAttest (beside q.listing.json (value_in found.banks)) q.options q.attest said
+    × ChecksAttest (beside q.listing.form (value_in found.banks)) q.options q.attest said
     × IsFollowed q.attest
     (λ selections. events_from q.listing (Some selections) (length bytes) 1 (map shown records))
-    (ended q.listing.json said) (printed status text))
-    ⊎ TellsFault q.listing.json bytes status text
+    (ended q.listing.form said) (printed status text))
+    ⊎ TellsFault q.listing.form bytes status text
 
 -- Without a quote they stand alone.
 abbrev pub ListsBeside : Listing → Asked → List ℕ → Status → List ℕ → Type 0

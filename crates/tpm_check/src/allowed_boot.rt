@@ -11,7 +11,6 @@ ghost use Rattle.tpm_output.specs.declared.status.Status.TheVariants.{Refused};
 ghost use Rattle.tpm_output.specs.Faults.{FailsByMemoryOrWrite};
 ghost use Rattle.tpm_output.specs.InputLines.{CountsRead};
 ghost use Rattle.tpm_output.specs.Reads.{ReadsNoMore, ReadsUpTo};
-ghost use Rattle.tpm_check.specs.AllowTold.{too_long_text};
 ghost use Rattle.tpm_check.specs.AllowedBoot.{ChecksBeside, SaysBehind, SaysBeside, SaysOfList};
 ghost use Rattle.tpm_check.specs.AllowedBoot.{SaysOfRead, SaysOfSelected, on_boot, on_found};
 ghost use Rattle.tpm_check.specs.CheckAttest.{Says};
@@ -26,9 +25,9 @@ use crate::allow_lines::read_allowed;
 use crate::allow_told::AllowTold;
 use crate::allowed_line::AllowedLine;
 use crate::beside::Beside;
-use crate::check_json::ok_text;
+use crate::check_json::{fault_answer, push_ok};
 use crate::checked::tell_fault;
-use crate::compared::{MOST_BYTES, no_register_text};
+use crate::compared::MOST_BYTES;
 use crate::extensions::{Extension, extensions_in};
 use crate::judged::answer_to_attest;
 use crate::looked_up::{LookedUp, look_up};
@@ -43,6 +42,7 @@ use tpm_log::Log;
 use tpm_options::CheckOptions;
 use tpm_output::answer::Answer;
 use tpm_output::fault::ToolFault;
+use tpm_output::form::Form;
 use tpm_output::reads::read_up_to;
 use tpm_output::status::Status;
 use tpm_pcr::Registers;
@@ -56,11 +56,11 @@ fn answer_to_found(
     quoted: &Selections,
 ) -> Result<Answer, AllocError>
     ensures { IfOk result (λ a. Says
-        (on_found told.now.json told.now.list.now quoted.now told.now.found.now)
+        (on_found told.now.form told.now.list.now quoted.now told.now.found.now)
         a.status (string_bytes a.text)) }
 {
     match told.list.digests() {
-        [] => Answer::of(alloc, Status::Refused, no_register_text(told.json, false)),
+        [] => fault_answer(alloc, told.form, "no register"),
         [_, ..] => {
             let mut text = String::new(alloc);
             let status = told.push(&mut text, quoted)?;
@@ -70,23 +70,13 @@ fn answer_to_found(
 }
 
 // That the line of this number is wrong.
-fn wrong_line(alloc: Global, json: bool, number: u64) -> Result<Answer, AllocError>
+fn wrong_line(alloc: Global, form: Form, number: u64) -> Result<Answer, AllocError>
     ensures { IfOk result (λ a. (a.status ≡ Refused)
-        × (string_bytes a.text ≡ not_a_register_text json number)) }
+        × (string_bytes a.text ≡ not_a_register_text form number)) }
 {
     let mut text = String::new(alloc);
-    push_not_a_register(&mut text, json, number)?;
+    push_not_a_register(&mut text, form, number)?;
     Ok(Answer::refused(text))
-}
-
-fn too_long_text(json: bool) -> &'static str
-    ensures { result.now ≡ too_long_text json }
-{
-    if json {
-        "{\"fault\":\"list too long\"}\n"
-    } else {
-        "list too long\n"
-    }
 }
 
 // A log beside which a quote is the one asked for, what the quote selects, and what is asked for.
@@ -113,7 +103,7 @@ impl<'a, 'b, 'c> VouchedLog<'a, 'b, 'c> {
         let told = AllowTold {
             list,
             found: found.as_slice(),
-            json: self.options.json,
+            form: self.options.form,
         };
         answer_to_found(alloc, &told, self.quoted)
     }
@@ -123,13 +113,13 @@ impl<'a, 'b, 'c> VouchedLog<'a, 'b, 'c> {
         ensures { IfOk result (λ a. SaysOfList (vouched_log self.now) bytes.now
             (printed a.status (string_bytes a.text))) }
     {
-        let json = self.options.json;
+        let form = self.options.form;
         if bytes.len() > MOST_BYTES {
-            return Answer::of(alloc, Status::Refused, too_long_text(json));
+            return fault_answer(alloc, form, "list too long");
         }
         match read_allowed(alloc, bytes)? {
             Ok(digests) => self.answer_to_digests(alloc, digests.as_slice()),
-            Err(number) => wrong_line(alloc, json, number),
+            Err(number) => wrong_line(alloc, form, number),
         }
     }
 
@@ -204,19 +194,19 @@ fn answer_beside(
         (record { attest = attest.now; allow = option_map (λ a. a.now) allow.entry })
         found.now.registers found.now.log (printed a.status (string_bytes a.text))) }
 {
-    let json = options.json;
+    let form = options.form;
     let beside = Beside {
         registers: &found.registers,
-        json,
+        form,
     };
     let first = answer_to_attest(alloc, &beside, options, attest)?;
     let mut text = first.text;
     if first.status == Status::Refused {
-        text.push_str(ok_text(json, Status::Refused))?;
+        push_ok(&mut text, form, Status::Refused)?;
         return Ok(Answer::refused(text));
     }
     let status = push_behind(alloc, &mut text, options, attest, allow, &found.log)?;
-    text.push_str(ok_text(json, status))?;
+    push_ok(&mut text, form, status)?;
     Ok(Answer { status, text })
 }
 
@@ -238,7 +228,7 @@ pub(crate) fn print_beside<W: Write>(
 {
     match replayed(bytes) {
         Ok(found) => answer_beside(alloc, options, attest, allow, &found)?.print(out),
-        Err(fault) => tell_fault(alloc, options.json, &fault, out),
+        Err(fault) => tell_fault(alloc, options.form, &fault, out),
     }
 }
 
@@ -273,19 +263,19 @@ fn answer_to_quoted(
         → SaysBeside options.now (record { attest = attest.now; allow = Some allow })
         registers.now l (printed a.status (string_bytes a.text))) }
 {
-    let json = options.json;
-    let first = answer_to_attest(alloc, &Beside { registers, json }, options, attest)?;
+    let form = options.form;
+    let first = answer_to_attest(alloc, &Beside { registers, form }, options, attest)?;
     let mut text = first.text;
     match first.status {
         Status::Refused => {
-            text.push_str(ok_text(json, Status::Refused))?;
+            push_ok(&mut text, form, Status::Refused)?;
             Ok(Answer::refused(text))
         }
         Status::Done => {
-            let told = AllowTold { list, found, json };
+            let told = AllowTold { list, found, form };
             let last = answer_to_found(alloc, &told, &selected(attest))?;
             text.push_str(last.text.as_str())?;
-            text.push_str(ok_text(json, last.status))?;
+            push_ok(&mut text, form, last.status)?;
             let status = last.status;
             Ok(Answer { status, text })
         }
@@ -316,7 +306,7 @@ fn print_found<W: Write>(
             let unknown = found.found.as_slice();
             answer_to_quoted(alloc, options, attest, list, registers, unknown)?.print(out)
         }
-        Err(fault) => tell_fault(alloc, options.json, &fault, out),
+        Err(fault) => tell_fault(alloc, options.form, &fault, out),
     }
 }
 

@@ -2,33 +2,57 @@
 
 ghost use Rattle.std.specs.Prelude.{◌≡◌, ◌++◌, IfOk, OnOk, option_map, string_bytes};
 ghost use Rattle.tpm_output.specs.declared.status.Status.TheVariants.{Refused};
-ghost use Rattle.tpm_check.specs.CheckJson.{hint_line, hint_member, not_hexadecimal_text, ok_text};
-ghost use Rattle.tpm_check.specs.CheckJson.{refusal_members, refusal_text};
-ghost use Rattle.tpm_check.specs.Compare.{status_if};
+ghost use Rattle.tpm_output.specs.Json.{as_object};
+ghost use Rattle.tpm_output.specs.Numbers.{hexadecimal};
+ghost use Rattle.tpm_check.specs.CheckJson.{hint_line, is_ok, marks_of_refusal, ok_text, refusal_text};
+ghost use Rattle.tpm_check.specs.Compare.{fault_told, status_if};
 
 use std::alloc::{AllocError, Global};
 use tpm_output::answer::Answer;
+use tpm_output::form::Form;
+use tpm_output::mark::{Mark, Value};
 use tpm_output::status::Status;
+use tpm_output::tell::{Marks, Tell, push_either, push_object};
+use tpm_output::tell_says;
+use tpm_output::teller::{Teller, Told, tell_word};
 use tpm_output::text::{Pushed, push_refusal};
 use tpm_wire::Refusal;
 
-#[tactic(auto, unfolding(crate::specs::CheckJson::refusal_members))]
-fn push_refusal_members(text: &mut String, refusal: &Refusal) -> Pushed
-    ensures { OnOk result (string_bytes text.new
-        ≡ string_bytes text.old ++ refusal_members refusal.now) }
+// ---- what is refused
+
+// A response code in its digits.
+#[tactic(auto, using(tpm_output::proofs::Padded::padded))]
+fn digits(alloc: Global, code: u32) -> Result<String, AllocError>
+    ensures { IfOk result (λ digits. string_bytes digits ≡ hexadecimal 3 code) }
 {
-    let Refusal { code, at } = *refusal;
-    write!(text, "{{\"refused\":\"{code:03x}\",\"at\":{at}")
+    format!(in alloc; "{code:03x}")
 }
 
-fn push_hint_member(text: &mut String, hint: Option<&str>) -> Pushed
-    ensures { OnOk result (string_bytes text.new
-        ≡ string_bytes text.old ++ hint_member (option_map (λ h. h.now) hint.entry)) }
-{
-    match hint {
-        Some(hint) => write!(text, ",\"hint\":\"{hint}\""),
-        None => Ok(()),
+// A refusal, by the digits of its code.
+#[derive(Clone, Copy)]
+struct ToldRefusal<'a, 'b> {
+    digits: &'a str,
+    at: u32,
+    hint: Option<&'b str>,
+}
+
+impl<'a, 'b> Tell for ToldRefusal<'a, 'b> {
+    ghost marks = { λ r. marks_of_refusal r.digits.now r.at (option_map (λ h. h.now) r.hint) };
+
+    fn tell<T: Teller>(&self, out: &mut T) -> Told {
+        tell_says!(out; Word "refused" self.digits, Number "at" u64::from(self.at))?;
+        match self.hint {
+            Some(hint) => tell_word(out, "hint", hint),
+            None => Ok(()),
+        }
     }
+}
+
+fn push_refused(text: &mut String, digits: &str, at: u32, hint: Option<&str>) -> Pushed
+    ensures { OnOk result (string_bytes text.new ≡ string_bytes text.old
+        ++ as_object (marks_of_refusal digits.now at (option_map (λ h. h.now) hint.entry))) }
+{
+    push_object(text, &ToldRefusal { digits, at, hint })
 }
 
 fn push_hint_line(text: &mut String, hint: Option<&str>) -> Pushed
@@ -45,36 +69,54 @@ fn push_hint_line(text: &mut String, hint: Option<&str>) -> Pushed
 /// with the status `Refused`. AllocError where a request for memory is refused.
 pub(crate) fn refusal_answer(
     alloc: Global,
-    json: bool,
+    form: Form,
     refusal: &Refusal,
     hint: Option<&str>,
 ) -> Result<Answer, AllocError>
     ensures { IfOk result (λ a. (a.status ≡ Refused)
         × (string_bytes a.text
-        ≡ refusal_text json refusal.now (option_map (λ h. h.now) hint.entry))) }
+        ≡ refusal_text form refusal.now (option_map (λ h. h.now) hint.entry))) }
 {
     let mut text = String::new(alloc);
-    if json {
-        push_refusal_members(&mut text, refusal)?;
-        push_hint_member(&mut text, hint)?;
-        text.push_str("}\n")?;
-    } else {
-        push_refusal(&mut text, refusal)?;
-        push_hint_line(&mut text, hint)?;
+    match form {
+        Form::Lines => {
+            push_refusal(&mut text, refusal)?;
+            push_hint_line(&mut text, hint)?;
+        }
+        Form::Json => {
+            let digits = digits(alloc, refusal.code)?;
+            push_refused(&mut text, digits.as_str(), refusal.at, hint)?;
+        }
     }
     Ok(Answer::refused(text))
 }
 
-/// That a text is not hexadecimal, in a line or as an object.
-pub(crate) fn not_hexadecimal_answer(alloc: Global, json: bool) -> Result<Answer, AllocError>
-    ensures { IfOk result (λ a. (a.status ≡ Refused)
-        × (string_bytes a.text ≡ not_hexadecimal_text json)) }
+/// Adds what is wrong, in these words.
+#[tactic(auto, unfolding(crate::specs::Compare::fault_told))]
+pub(crate) fn push_fault(text: &mut String, form: Form, fault: &str) -> Pushed
+    ensures { OnOk result (string_bytes text.new
+        ≡ string_bytes text.old ++ fault_told form fault.now) }
 {
-    if !json {
-        return Answer::not_hexadecimal(alloc);
-    }
-    Answer::of(alloc, Status::Refused, "{\"fault\":\"not hexadecimal\"}\n")
+    let fault = Value::Word(fault);
+    push_either(
+        text,
+        form,
+        &[Mark::Says(None, fault)],
+        &[Mark::Says(Some("fault"), fault)],
+    )
 }
+
+/// The same, with the status `Refused`. AllocError where a request for memory is refused.
+pub(crate) fn fault_answer(alloc: Global, form: Form, fault: &str) -> Result<Answer, AllocError>
+    ensures { IfOk result (λ a. (a.status ≡ Refused)
+        × (string_bytes a.text ≡ fault_told form fault.now)) }
+{
+    let mut text = String::new(alloc);
+    push_fault(&mut text, form, fault)?;
+    Ok(Answer::refused(text))
+}
+
+// ---- the status
 
 /// `Done` where this holds.
 pub(crate) fn status_if(holds: bool) -> Status
@@ -83,13 +125,25 @@ pub(crate) fn status_if(holds: bool) -> Status
     if holds { Status::Done } else { Status::Refused }
 }
 
-/// The object of a status, and nothing where lines are told.
-pub(crate) fn ok_text(json: bool, status: Status) -> &'static str
-    ensures { result.now ≡ ok_text json status }
+fn is_ok(status: Status) -> bool
+    ensures { result ≡ is_ok status }
 {
-    match (json, status) {
-        (false, _) => "",
-        (true, Status::Done) => "{\"ok\":true}\n",
-        (true, Status::Refused) => "{\"ok\":false}\n",
+    match status {
+        Status::Done => true,
+        Status::Refused => false,
+    }
+}
+
+/// Adds the object of a status, and nothing where lines are told.
+#[tactic(auto, unfolding(crate::specs::CheckJson::ok_text))]
+pub(crate) fn push_ok(text: &mut String, form: Form, status: Status) -> Pushed
+    ensures { OnOk result (string_bytes text.new ≡ string_bytes text.old ++ ok_text form status) }
+{
+    match form {
+        Form::Lines => Ok(()),
+        Form::Json => {
+            let ok = Mark::Says(Some("ok"), Value::Truth(is_ok(status)));
+            push_object(text, &Marks(&[ok]))
+        }
     }
 }

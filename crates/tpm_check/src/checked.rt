@@ -23,7 +23,7 @@ ghost use Rattle.tpm_wire.specs.Sources.{IsWhereItFailed};
 
 use crate::asked::Asked;
 use crate::beside::Beside;
-use crate::check_json::ok_text;
+use crate::check_json::push_ok;
 use crate::compared::check_list;
 use crate::judged::answer_to_attest;
 use crate::quoted::answer_to_quote;
@@ -34,36 +34,43 @@ use std::io::Write;
 use tpm_events::faults::print_fault;
 use tpm_log::{LogFault, LogFaultKind, replay_from};
 use tpm_options::CheckOptions;
-use tpm_output::answer::Answer;
+use tpm_output::answer::{Answer, write};
 use tpm_output::fault::ToolFault;
+use tpm_output::form::Form;
 use tpm_output::status::Status;
-use tpm_output::written::put;
 use tpm_types::Alg;
 use tpm_wire::Source;
 
 /// Prints the fault of a log, and the status where it is told.
 pub(crate) fn tell_fault<W: Write>(
     alloc: Global,
-    json: bool,
+    form: Form,
     fault: &LogFault,
     out: &mut W,
 ) -> Result<Status, ToolFault>
     ensures ok { IfOk result (λ status. (status ≡ Refused)
         × Appends (W.contents out.old) (W.contents out.new)
-        (fault_text json fault.now ++ ok_text json Refused)) }
+        (fault_text form fault.now ++ ok_text form Refused)) }
     ensures err { FailsByMemoryOrWrite result }
 {
-    let status = print_fault(alloc, json, fault, out)?;
-    print_ok(json, status, out)
+    let status = print_fault(alloc, form, fault, out)?;
+    print_ok(alloc, form, status, out)
 }
 
 // Prints the status, where it is told.
-fn print_ok<W: Write>(json: bool, status: Status, out: &mut W) -> Result<Status, ToolFault>
+fn print_ok<W: Write>(
+    alloc: Global,
+    form: Form,
+    status: Status,
+    out: &mut W,
+) -> Result<Status, ToolFault>
     ensures ok { IfOk result (λ same. (same ≡ status)
-        × Appends (W.contents out.old) (W.contents out.new) (ok_text json status)) }
+        × Appends (W.contents out.old) (W.contents out.new) (ok_text form status)) }
     ensures err { FailsByMemoryOrWrite result }
 {
-    put(out, ok_text(json, status))?;
+    let mut text = String::new(alloc);
+    push_ok(&mut text, form, status)?;
+    write(out, &text)?;
     Ok(status)
 }
 
@@ -93,7 +100,7 @@ fn answer_last(
     ensures { IfOk result (λ a. ChecksValues (told found.now) options.now others
         (printed a.status (string_bytes a.text))) }
 {
-    let json = found.json;
+    let form = found.form;
     match options.quote {
         Some(quote) => answer_to_quote(alloc, found, options.hash, quote),
         None if others => Ok(Answer::done(String::new(alloc))),
@@ -101,9 +108,9 @@ fn answer_last(
             let registers = ToldRegisters {
                 found: found.registers,
                 banks: &Alg::ALL,
-                json,
+                form,
             };
-            rendered(alloc, json, Status::Done, &registers)
+            rendered(alloc, form, Status::Done, &registers)
         }
     }
 }
@@ -163,7 +170,7 @@ fn print_to_end<F: Source, W: Write>(
         → ReadsTooMuchIfList (option_map F.coming list.old) (option_map F.coming list.new) }
 {
     let status = print_compared(alloc, found, asked, list, out)?;
-    print_ok(found.json, status, out)
+    print_ok(alloc, found.form, status, out)
 }
 
 /// Replays a log of a measured boot, and prints the registers that it gives, or compares them with what is given: a
@@ -246,11 +253,11 @@ pub fn check_log<L: Source, F: Source, W: Write>(
     let found = match replay_from(log) {
         Ok(found) => found,
         Err(fault) if fault.kind == LogFaultKind::Device => return Err(ToolFault::Read),
-        Err(fault) => return tell_fault(alloc, asked.options.json, &fault, out),
+        Err(fault) => return tell_fault(alloc, asked.options.form, &fault, out),
     };
     let found = Beside {
         registers: &found,
-        json: asked.options.json,
+        form: asked.options.form,
     };
     print_to_end(alloc, &found, asked, list, out)
 }

@@ -18,15 +18,16 @@ ghost use Rattle.tpm_check.specs.inner.Told.{told};
 use crate::beside::Beside;
 use crate::check_json::status_if;
 use crate::list_lines::{Heading, ListLine, MOST_LINE, read_line};
-use crate::register_text::{push_compared, push_not_a_register};
+use crate::register_text::{push_compared, push_no_register, push_not_a_register};
 use crate::stated::Stated;
 use std::alloc::{AllocError, Global};
 use std::io::Write;
+use tpm_output::answer::write;
 use tpm_output::fault::ToolFault;
+use tpm_output::form::Form;
 use tpm_output::input_lines::{LineSink, take_lines};
 use tpm_output::status::Status;
 use tpm_output::text::Pushed;
-use tpm_output::written::put;
 use tpm_wire::Source;
 
 /// How many bytes a list has at most.
@@ -54,7 +55,7 @@ impl Comparing<'_> {
         let same = value.as_slice() == stated.value.as_slice();
         push_compared(
             text,
-            found.json,
+            found.form,
             same,
             stated.bank,
             stated.register.number(),
@@ -82,7 +83,7 @@ impl Comparing<'_> {
             ListLine::Heading(heading) => self.heading = heading,
             ListLine::Passed => {}
             ListLine::Wrong => {
-                push_not_a_register(text, self.found.json, number)?;
+                push_not_a_register(text, self.found.form, number)?;
                 return Ok(false);
             }
         }
@@ -130,27 +131,18 @@ impl LineSink for Comparing<'_> {
     }
 }
 
-/// What is printed behind a list of which no line states a register, and nothing behind any other.
-pub(crate) fn no_register_text(json: bool, any: bool) -> &'static str
-    ensures { result.now ≡ no_register_text json any }
-{
-    match (json, any) {
-        (_, true) => "",
-        (false, false) => "no register\n",
-        (true, false) => "{\"fault\":\"no register\"}\n",
-    }
-}
-
 impl Comparing<'_> {
     // The status of a whole list. Where no line of it states a register, that is printed.
-    fn end<W: Write>(&self, json: bool, out: &mut W) -> Result<Status, ToolFault>
+    fn end<W: Write>(&self, alloc: Global, form: Form, out: &mut W) -> Result<Status, ToolFault>
         ensures ok { IfOk result (λ status. (status
             ≡ both self.now.status (status_if self.now.any))
             × Appends (W.contents out.old) (W.contents out.new)
-            (no_register_text json self.now.any)) }
+            (no_register_text form self.now.any)) }
         ensures err { FailsByMemoryOrWrite result }
     {
-        put(out, no_register_text(json, self.any))?;
+        let mut text = String::new(alloc);
+        push_no_register(&mut text, form, self.any)?;
+        write(out, &text)?;
         Ok(self.status.both(status_if(self.any)))
     }
 }
@@ -202,7 +194,7 @@ fn compare_list<F: Source, W: Write>(
         → ReadsTooMuchList (F.coming list.old) (F.coming list.new) }
 {
     match compare_lines(alloc, found, list, out)? {
-        Some(comparing) => Ok(Some(comparing.end(found.json, out)?)),
+        Some(comparing) => Ok(Some(comparing.end(alloc, found.form, out)?)),
         None => Ok(None),
     }
 }

@@ -17,6 +17,7 @@ use crate::signed_told::tell_attest;
 use std::alloc::{AllocError, Global};
 use tpm_options::CheckOptions;
 use tpm_output::answer::Answer;
+use tpm_output::form::Form;
 use tpm_output::mark::{Mark, Shape, Value};
 use tpm_output::tell::Tell;
 use tpm_output::teller::{Teller, Told, tell_all, tell_word};
@@ -123,29 +124,18 @@ fn tell_signer<T: Teller>(out: &mut T, same: Option<bool>) -> Told
 #[derive(Clone, Copy)]
 pub(crate) struct Lacks {
     pub(crate) missing: NotSelected,
-    /// Whether it is an object of its own. Else it is further words.
-    pub(crate) json: bool,
+    /// Whether it is further words, or an object of its own.
+    pub(crate) form: Form,
 }
 
 impl Tell for Lacks {
-    ghost marks = { λ l. marks_of_lacks l.json l.missing };
+    ghost marks = { λ l. marks_of_lacks l.form l.missing };
 
     fn tell<T: Teller>(&self, out: &mut T) -> Told {
         let bank = Value::Word(self.missing.bank.name());
         let register = Value::Number(u64::from(self.missing.register.number()));
-        if self.json {
-            tell_all(
-                out,
-                &[
-                    Mark::Says(Some("selection"), Value::Word("lacks")),
-                    Mark::Opens(Some("lacks"), Shape::Object),
-                    Mark::Says(Some("bank"), bank),
-                    Mark::Says(Some("register"), register),
-                    Mark::Closes(Shape::Object),
-                ],
-            )
-        } else {
-            tell_all(
+        match self.form {
+            Form::Lines => tell_all(
                 out,
                 &[
                     Mark::Opens(Some("selection"), Shape::List),
@@ -154,17 +144,27 @@ impl Tell for Lacks {
                     Mark::Says(None, register),
                     Mark::Closes(Shape::List),
                 ],
-            )
+            ),
+            Form::Json => tell_all(
+                out,
+                &[
+                    Mark::Says(Some("selection"), Value::Word("lacks")),
+                    Mark::Opens(Some("lacks"), Shape::Object),
+                    Mark::Says(Some("bank"), bank),
+                    Mark::Says(Some("register"), register),
+                    Mark::Closes(Shape::Object),
+                ],
+            ),
         }
     }
 }
 
-fn tell_selected<T: Teller>(out: &mut T, json: bool, selected: Selected) -> Told
+fn tell_selected<T: Teller>(out: &mut T, form: Form, selected: Selected) -> Told
     ensures { OnOk result (T.state out.new
-        ≡ told_by T.tells (T.state out.old) (marks_of_selected json selected)) }
+        ≡ told_by T.tells (T.state out.old) (marks_of_selected form selected)) }
 {
     match selected {
-        Selected::Lacks(missing) => Lacks { missing, json }.tell(out),
+        Selected::Lacks(missing) => Lacks { missing, form }.tell(out),
         Selected::Covers => tell_word(out, "selection", "covers"),
         Selected::Empty => tell_word(out, "selection", "empty"),
         Selected::NotCompared => tell_word(out, "selection", "not compared"),
@@ -176,12 +176,11 @@ fn tell_selected<T: Teller>(out: &mut T, json: bool, selected: Selected) -> Told
 struct ToldJudged<'a, 'b> {
     attest: &'b Attest<'a>,
     judged: Judged,
-    // Whether which register is lacking is an object of its own. Else it is further words.
-    json: bool,
+    form: Form,
 }
 
 impl<'a, 'b> Tell for ToldJudged<'a, 'b> {
-    ghost marks = { λ t. marks_of_judged t.json t.attest.now t.judged };
+    ghost marks = { λ t. marks_of_judged t.form t.attest.now t.judged };
 
     #[tactic(auto, using(tpm_output::proofs::Telling::told_both))]
     fn tell<T: Teller>(&self, out: &mut T) -> Told {
@@ -189,7 +188,7 @@ impl<'a, 'b> Tell for ToldJudged<'a, 'b> {
         tell_attest(out, self.attest)?;
         tell_signer(out, judged.signer)?;
         tell_word(out, "nonce", verdict_word(judged.nonce, "not compared"))?;
-        tell_selected(out, self.json, judged.selection)?;
+        tell_selected(out, self.form, judged.selection)?;
         tell_quote(out, judged.quote)
     }
 }
@@ -241,16 +240,16 @@ pub(crate) fn answer_to_attest(
 {
     match decode_attest(bytes) {
         Ok(attest) => {
-            let json = found.json;
+            let form = found.form;
             let judged = Judged::of(found, options, &attest);
             let status = status_if(judged.is_asked_for(options));
             let told = ToldJudged {
                 attest: &attest,
                 judged,
-                json,
+                form,
             };
-            rendered(alloc, json, status, &told)
+            rendered(alloc, form, status, &told)
         }
-        Err(refusal) => refusal_answer(alloc, found.json, &refusal, hint(bytes)),
+        Err(refusal) => refusal_answer(alloc, found.form, &refusal, hint(bytes)),
     }
 }

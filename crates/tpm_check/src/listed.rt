@@ -9,7 +9,7 @@ ghost use Rattle.tpm_check.specs.CheckJson.{ok_text, registers_told};
 ghost use Rattle.tpm_check.specs.Listed.{TellsListed};
 ghost use Rattle.tpm_check.specs.SecureBootLines.{listed_banks};
 
-use crate::check_json::ok_text;
+use crate::check_json::push_ok;
 use crate::checked::tell_fault;
 use crate::registers_told::ToldRegisters;
 use crate::renderings::rendered;
@@ -20,28 +20,29 @@ use std::io::Write;
 use tpm_log::Log;
 use tpm_output::answer::Answer;
 use tpm_output::fault::ToolFault;
+use tpm_output::form::Form;
 use tpm_output::status::Status;
 use tpm_pcr::Registers;
 
 // What is printed of a log that gives these registers.
 fn answer_to_log(
     alloc: Global,
-    json: bool,
+    form: Form,
     found: &Registers,
     log: &Log<'_>,
 ) -> Result<Answer, AllocError>
     ensures { IfOk result (λ a. (a.status ≡ Done)
-        × (string_bytes a.text ≡ registers_told json (value_in found.now.banks)
-        (listed_banks log.now.hashes) ++ ok_text json Done)) }
+        × (string_bytes a.text ≡ registers_told form (value_in found.now.banks)
+        (listed_banks log.now.hashes) ++ ok_text form Done)) }
 {
     let banks = listed_banks(log);
     let registers = ToldRegisters {
         found,
         banks: banks.as_slice(),
-        json,
+        form,
     };
-    let mut text = rendered(alloc, json, Status::Done, &registers)?.text;
-    text.push_str(ok_text(json, Status::Done))?;
+    let mut text = rendered(alloc, form, Status::Done, &registers)?.text;
+    push_ok(&mut text, form, Status::Done)?;
     Ok(Answer::done(text))
 }
 
@@ -53,17 +54,17 @@ fn answer_to_log(
 /// open.
 pub fn check_listed<W: Write>(
     alloc: Global,
-    json: bool,
+    form: Form,
     bytes: &[u8],
     out: &mut W,
 ) -> Result<Status, ToolFault>
     ensures ok { IfOk result (λ status. (text : List ℕ)
-        × TellsListed json bytes.now status text
+        × TellsListed form bytes.now status text
         × Appends (W.contents out.old) (W.contents out.new) text) }
     ensures err { FailsByMemoryOrWrite result }
 {
     match replayed(bytes) {
-        Ok(found) => answer_to_log(alloc, json, &found.registers, &found.log)?.print(out),
-        Err(fault) => tell_fault(alloc, json, &fault, out),
+        Ok(found) => answer_to_log(alloc, form, &found.registers, &found.log)?.print(out),
+        Err(fault) => tell_fault(alloc, form, &fault, out),
     }
 }

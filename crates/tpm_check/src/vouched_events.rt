@@ -18,7 +18,7 @@ ghost use Rattle.tpm_check.specs.VouchedEvents.{IsFollowed, ListsBeside, ListsVo
 
 use crate::asked::Asked;
 use crate::beside::Beside;
-use crate::check_json::ok_text;
+use crate::check_json::push_ok;
 use crate::checked::tell_fault;
 use crate::judged::answer_to_attest;
 use crate::quoted_boot::selected;
@@ -43,13 +43,13 @@ fn answer_to_end(
     attest: &[u8],
 ) -> Result<Answer, AllocError>
     ensures { IfOk result (λ a. (said : Verdict)
-        × ChecksAttest (beside found.now.json (value_in found.now.registers.now.banks))
+        × ChecksAttest (beside found.now.form (value_in found.now.registers.now.banks))
         options.now attest.now said
-        × Says (ended found.now.json said) a.status (string_bytes a.text)) }
+        × Says (ended found.now.form said) a.status (string_bytes a.text)) }
 {
     let said = answer_to_attest(alloc, found, options, attest)?;
     let mut text = said.text;
-    text.push_str(ok_text(found.json, said.status))?;
+    push_ok(&mut text, found.form, said.status)?;
     Ok(Answer {
         status: said.status,
         text,
@@ -101,14 +101,14 @@ fn print_vouched<W: Write>(
         × Appends (W.contents out.old) (W.contents out.new) text) }
     ensures err { FailsByMemoryOrWrite result }
 {
-    let json = listing.json;
+    let form = listing.form;
     let found = match replayed(bytes) {
         Ok(found) => found,
-        Err(fault) => return tell_fault(alloc, json, &fault, out),
+        Err(fault) => return tell_fault(alloc, form, &fault, out),
     };
     let beside = Beside {
         registers: &found.registers,
-        json,
+        form,
     };
     let said = answer_to_end(alloc, &beside, options, attest)?;
     print_behind(alloc, listing, &said, attest, &found.log, out)

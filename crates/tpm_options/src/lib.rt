@@ -2,6 +2,7 @@
 #![tactic(auto)]
 
 use tpm_names::selection::RegisterList;
+use tpm_output::form::Form;
 use tpm_types::{Alg, Selections};
 
 /// A capture whose frames are printed.
@@ -13,8 +14,8 @@ pub struct CaptureTask<'a> {
     pub binary: bool,
     /// Whether each parameter is printed by its name and its type, too.
     pub fields: bool,
-    /// Whether each frame is printed as an object of JSON.
-    pub json: bool,
+    /// How the frames are told.
+    pub form: Form,
 }
 
 /// Packets of which each frame is printed that went over a simulator's port.
@@ -26,8 +27,8 @@ pub struct PacketsTask<'a> {
     pub port: u16,
     /// Whether each parameter is printed by its name and its type, too.
     pub fields: bool,
-    /// Whether each frame is printed as an object of JSON.
-    pub json: bool,
+    /// How the frames are told.
+    pub form: Form,
 }
 
 /// A log, by itself.
@@ -35,8 +36,8 @@ pub struct PacketsTask<'a> {
 pub struct LogTask<'a> {
     /// Its path.
     pub log: &'a str,
-    /// Whether what is said of it is printed as an object of JSON.
-    pub json: bool,
+    /// How what is said of it is told.
+    pub form: Form,
 }
 
 /// A log that is checked.
@@ -72,8 +73,8 @@ pub struct Listing<'a> {
     pub digests: bool,
     /// Whether each record has its data.
     pub event_data: bool,
-    /// Whether each record is an object of JSON in place of a line of fields, with all that it holds.
-    pub json: bool,
+    /// Whether each record is a line of fields, or an object with all that it holds.
+    pub form: Form,
 }
 
 /// The paths of the files of a check.
@@ -113,6 +114,6 @@ pub struct CheckOptions<'a> {
     pub any_state: bool,
     /// Whether it is asked by which digests the log extends registers, in place of registers.
     pub extends: bool,
-    /// Whether what is printed is objects of JSON, one in a line, in place of lines.
-    pub json: bool,
+    /// How what is printed is told.
+    pub form: Form,
 }

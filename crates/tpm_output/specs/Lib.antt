@@ -12,6 +12,7 @@ pub mod Telling
 pub mod Fields
 pub mod Lines
 pub mod Json
+pub mod Form
 pub mod Reading
 pub mod Reads
 pub mod InputLines

@@ -9,6 +9,7 @@ pub mod as_json;
 pub mod escapes;
 pub mod fault;
 pub mod fields;
+pub mod form;
 pub mod hexadecimal;
 pub mod input_lines;
 pub mod lent;

@@ -135,10 +135,10 @@ Performs offered (Show reply true hex) status text = ShowsFields reply hex.now s
 Performs offered (Show reply false hex) status text = Shows reply hex.now status text
 Performs offered (ShowCapture c) status text =
     OfPlace offered c.file (λ capture.
-    TellsFrames (form_of c.binary (record { fields = c.fields; json = c.json })) capture status text)
+    TellsFrames (form_of c.binary (record { fields = c.fields; form = c.form })) capture status text)
 Performs offered (ShowPackets p) status text =
     OfFile offered p.file.now (λ packets. (rest : Option (List ℕ)) × OfReadUpTo most_packets packets rest (λ bytes.
-    TellsPackets (record { fields = p.fields; json = p.json }) p.port bytes status text))
+    TellsPackets (record { fields = p.fields; form = p.form }) p.port bytes status text))
 Performs offered (ShowNv file) status text =
     OfFile offered file.now (OfFirst most_kept (λ bytes. ShowsNv bytes status text))
 Performs offered (Build name handles sessions parameters) status text =
@@ -163,9 +163,9 @@ Performs offered (Check c) status text =
       asked = record { options = c.options; attest = attest; allow = allow };
     }) status text))))
 Performs offered (CheckListed l) status text =
-    OfFile offered l.log.now (OfFirst most_read (λ bytes. TellsListed l.json bytes status text))
+    OfFile offered l.log.now (OfFirst most_read (λ bytes. TellsListed l.form bytes status text))
 Performs offered (EventsHeader l) status text =
-    OfFile offered l.log.now (OfFirst most_read (λ bytes. TellsHeader l.json bytes status text))
+    OfFile offered l.log.now (OfFirst most_read (λ bytes. TellsHeader l.form bytes status text))
 Performs offered (Events e) status text =
     OfFile offered e.log.now (λ coming.
     OfFirstIf offered most_attest e.attest (λ attest.

@@ -61,7 +61,7 @@ pub(crate) fn events_header<'a, I: Inputs, W: Write>(
     ensures err { IfErr result (λ fault. Fails (I.offers inputs.now) (EventsHeader task.now) fault) }
 {
     let bytes = bytes_at(alloc, inputs, task.log, MOST_READ)?;
-    Ok(print_header(alloc, task.json, bytes.as_slice(), out)?)
+    Ok(print_header(alloc, task.form, bytes.as_slice(), out)?)
 }
 
 /// Prints the registers that a log gives in the banks that its header lists.
@@ -77,7 +77,7 @@ pub(crate) fn check_banks<'a, I: Inputs, W: Write>(
     ensures err { IfErr result (λ fault. Fails (I.offers inputs.now) (CheckListed task.now) fault) }
 {
     let bytes = bytes_at(alloc, inputs, task.log, MOST_READ)?;
-    Ok(check_listed(alloc, task.json, bytes.as_slice(), out)?)
+    Ok(check_listed(alloc, task.form, bytes.as_slice(), out)?)
 }
 
 // Which of a log and a list was read last: the list is read behind the log, where no read of that failed.

@@ -33,14 +33,14 @@ fn show_frames<S: Source, W: Write>(
     ensures failures { CountsRead (S.failed input.old) (S.failed input.new) result }
     ensures ok { IfOk result (λ status. (text : List ℕ)
         × TellsFrames (form_of task.now.binary
-        (record { fields = task.now.fields; json = task.now.json })) (S.coming input.old) status text
+        (record { fields = task.now.fields; form = task.now.form })) (S.coming input.old) status text
         × Appends (W.contents out.old) (W.contents out.new) text) }
     ensures too_long { IsErrOf result InputTooLong → (rest : Option (List ℕ))
         × ReadsTooMuchCapture (S.coming input.old) rest }
 {
     let how = Telling {
         fields: task.fields,
-        json: task.json,
+        form: task.form,
     };
     if task.binary {
         show_stream(alloc, input, out, how)
@@ -86,7 +86,7 @@ pub(crate) fn show_traffic<'a, I: Inputs, W: Write>(
 {
     let how = Telling {
         fields: task.fields,
-        json: task.json,
+        form: task.form,
     };
     let mut packets = opened(inputs, task.file)?;
     match show_packets(alloc, &mut packets, out, task.port, how) {

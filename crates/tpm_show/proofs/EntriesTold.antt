@@ -187,7 +187,7 @@ ends_at new room count (suc left) before most within met room_left all none =
 
 -- Where nothing went over the port that is told, and else all of it.
 pub none_told : (how : Telling) (port : ℕ) (entries : List Entry) (text : List ℕ) → (length entries == 0) ≡ true
-    → IsReport how.json (no_packet_report port) text → TellsTraffic how port (Entries entries) Refused text
+    → IsReport how.form (no_packet_report port) text → TellsTraffic how port (Entries entries) Refused text
 none_told how port [] text none f = (refl, f)
 none_told how port (x ∷ xs) text none f = absurd (omega (arith, eqb-true (length (x ∷ xs)) 0 none))
 

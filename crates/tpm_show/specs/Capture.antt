@@ -176,11 +176,11 @@ TellsLine p (Frame mark bytes) status text =
     let direction = direction_of mark p.awaited bytes in
     (pieces : List Piece)
     × TellsFrame direction (frame_at p bytes) status pieces
-    × IsReport p.how.json (frame_report p.how.fields p.number direction pieces) text
+    × IsReport p.how.form (frame_report p.how.fields p.number direction pieces) text
 TellsLine p NotHexadecimal status text =
-    (status ≡ Refused) × IsReport p.how.json (fault_report p.number (codes "not hexadecimal")) text
+    (status ≡ Refused) × IsReport p.how.form (fault_report p.number (codes "not hexadecimal")) text
 TellsLine p TooLong status text =
-    (status ≡ Refused) × IsReport p.how.json (fault_report p.number (codes "too long")) text
+    (status ≡ Refused) × IsReport p.how.form (fault_report p.number (codes "too long")) text
 
 -- From this place the lines are told one after the other. All is done where each is.
 abbrev pub TellsFrom : CapturePlace → List CaptureLine → Status → List ℕ → Type 0

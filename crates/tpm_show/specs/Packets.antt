@@ -59,7 +59,7 @@ TellsEntry p Connection status text = (status ≡ Done) × (text ≡ [])
 TellsEntry p (went.Command stamp bytes) status text = TellsLine (among p stamp) (Frame (Some Command) bytes) status text
 TellsEntry p (went.Reply stamp bytes) status text = TellsLine (among p stamp) (Frame (Some Reply) bytes) status text
 TellsEntry p (Untold packet reason) status text =
-    (status ≡ Refused) × IsReport p.how.json (packet_report packet (reason_text reason)) text
+    (status ≡ Refused) × IsReport p.how.form (packet_report packet (reason_text reason)) text
 
 -- From this place they are told one after the other. All is done where each is.
 abbrev pub TellsEntries : CapturePlace → List Entry → Status → List ℕ → Type 0
@@ -73,9 +73,9 @@ TellsEntries p (first ∷ others) status text = (one : Status) × (told : List �
 -- ---- a file
 
 abbrev pub TellsTraffic : (how : Telling) → (port : ℕ) → Traffic → Status → List ℕ → Type 0
-TellsTraffic how port NoCapture status text = (status ≡ Refused) × IsReport how.json no_capture_report text
-TellsTraffic how port (OtherLink number) status text = (status ≡ Refused) × IsReport how.json (link_report number) text
-TellsTraffic how port (Entries []) status text = (status ≡ Refused) × IsReport how.json (no_packet_report port) text
+TellsTraffic how port NoCapture status text = (status ≡ Refused) × IsReport how.form no_capture_report text
+TellsTraffic how port (OtherLink number) status text = (status ≡ Refused) × IsReport how.form (link_report number) text
+TellsTraffic how port (Entries []) status text = (status ≡ Refused) × IsReport how.form (no_packet_report port) text
 TellsTraffic how port (Entries (first ∷ others)) status text = TellsEntries (start how) (first ∷ others) status text
 
 -- For the bytes of a file, and the port of the simulator, this is the status and what is printed.

@@ -1,9 +1,11 @@
 -- What is told of a frame, or in place of one: lines, or an object of JSON in a line (this profile; RFC 8259).
-use Rattle.std.specs.Prelude.{◌≡◌, ℕ, Bool, true, false, List, [], ◌∷◌, ◌++◌, codes, Option, Some, None}
+use Rattle.std.specs.Prelude.{◌≡◌, ℕ, Bool, false, List, [], ◌∷◌, ◌++◌, codes, Option, Some, None}
 use Rattle.std.specs.Fmt.{decimal}
 use Rattle.json.specs.Lex.{tokens}
 use Rattle.json.specs.Print.{print}
 use Rattle.json.specs.Token.{Token}
+use Rattle.tpm_output.specs.declared.form.Form.TheVariants.{Lines, Json}
+use Rattle.tpm_output.specs.declared.form.Form.{Form}
 use Rattle.tpm_show.specs.declared.capture_lines.Direction.TheVariants.{Command, Reply}
 use Rattle.tpm_show.specs.declared.capture_lines.Direction.{Direction}
 use Rattle.tpm_show.specs.declared.piece.How.TheVariants as how
@@ -24,14 +26,14 @@ pub record IsObjectLine (object : List Token) (text : List ℕ) : Type 0 where
   pub is : text ≡ print object ++ codes "\n"
   pub reads_back : tokens (print object) ≡ object
 
-abbrev pub IsReport : (json : Bool) → Report → (text : List ℕ) → Type 0
-IsReport false report text = text ≡ report.lines
-IsReport true report text = IsObjectLine (object_of report.members) text
+abbrev pub IsReport : Form → Report → (text : List ℕ) → Type 0
+IsReport Lines report text = text ≡ report.lines
+IsReport Json report text = IsObjectLine (object_of report.members) text
 
 -- where there is one
-abbrev pub IsReportOrNothing : (json : Bool) → Option Report → (text : List ℕ) → Type 0
-IsReportOrNothing json None text = text ≡ []
-IsReportOrNothing json (Some report) text = IsReport json report text
+abbrev pub IsReportOrNothing : Form → Option Report → (text : List ℕ) → Type 0
+IsReportOrNothing form None text = text ≡ []
+IsReportOrNothing form (Some report) text = IsReport form report text
 
 -- ---- a frame
 

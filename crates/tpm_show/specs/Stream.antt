@@ -48,7 +48,7 @@ pub record TellsStream (how : Telling) (bytes : List ℕ) (status : Status) (tex
   pub tells : TellsFrom (start how) (map unmarked_frame frames) one told
   pub all : status ≡ both one (ending_status ending)
   pub last : List ℕ
-  pub report : IsReportOrNothing how.json (ending_report ending (length frames + 1) (length (concat frames))) last
+  pub report : IsReportOrNothing how.form (ending_report ending (length frames + 1) (length (concat frames))) last
   pub are : text ≡ told ++ last
 
 -- Of these bytes the frames that have come are told, and of the one that has not nothing.

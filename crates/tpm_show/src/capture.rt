@@ -32,6 +32,7 @@ use std::alloc::{AllocError, Global};
 use std::io::Write;
 use tpm_output::answer::write;
 use tpm_output::fault::ToolFault;
+use tpm_output::form::Form;
 use tpm_output::input_lines::{LineSink, take_lines};
 use tpm_output::status::Status;
 use tpm_output::text::Pushed;
@@ -110,12 +111,12 @@ impl Capture {
     fn tell_fault(&mut self, alloc: Global, text: &mut String, fault: &'static str) -> Pushed
         requires { self.old.number + 1 < 2 ^ 64 }
         ensures { OnOk result ((report : List ℕ)
-            × IsReport self.old.how.json (fault_report self.old.number fault.now) report
+            × IsReport self.old.how.form (fault_report self.old.number fault.now) report
             × (string_bytes text.new ≡ string_bytes text.old ++ report)
             × Passes self.old Unknown Refused self.new) }
     {
         let remark = Remark::Fault(self.number, fault);
-        push_remark(alloc, text, self.how.json, remark)?;
+        push_remark(alloc, text, self.how.form, remark)?;
         self.pass(Awaited::Unknown, Status::Refused);
         Ok(())
     }
@@ -187,14 +188,14 @@ impl Capture {
         ensures { IfOk result (λ status. (pieces : List Piece)
             × TellsFrame direction (frame_at (place self.now) bytes.now) status pieces
             × (report : List ℕ)
-            × IsReport self.now.how.json
+            × IsReport self.now.how.form
             (frame_report self.now.how.fields self.now.number direction pieces) report
             × (string_bytes text.new ≡ string_bytes text.old ++ report)) }
     {
-        match (self.how.json, self.how.fields) {
-            (true, _) => self.push_object(alloc, direction, bytes, text),
-            (false, true) => self.push_lines::<true>(alloc, direction, bytes, text),
-            (false, false) => self.push_lines::<false>(alloc, direction, bytes, text),
+        match (self.how.form, self.how.fields) {
+            (Form::Json, _) => self.push_object(alloc, direction, bytes, text),
+            (Form::Lines, true) => self.push_lines::<true>(alloc, direction, bytes, text),
+            (Form::Lines, false) => self.push_lines::<false>(alloc, direction, bytes, text),
         }
     }
 

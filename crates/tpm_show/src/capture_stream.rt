@@ -67,7 +67,7 @@ pub fn show_stream<R: Source, W: Write>(
             Err(ReadFault::EndInside) => {
                 return print_remark(
                     alloc,
-                    how.json,
+                    how.form,
                     Remark::Stop(capture.number, "cut short", read),
                     out,
                 );
@@ -75,7 +75,7 @@ pub fn show_stream<R: Source, W: Write>(
             Err(ReadFault::Broken(_)) => {
                 return print_remark(
                     alloc,
-                    how.json,
+                    how.form,
                     Remark::Stop(capture.number, "bad size", read),
                     out,
                 );

@@ -85,7 +85,7 @@ fn tell_entry(alloc: Global, capture: &mut Capture, entry: &Entry, text: &mut St
         }
         Entry::Untold(packet, reason) => {
             let remark = Remark::Packet(*packet, reason_text(*reason));
-            push_remark(alloc, text, capture.how.json, remark)?;
+            push_remark(alloc, text, capture.how.form, remark)?;
             capture.awaited = awaited_past(*reason, capture.awaited);
             capture.status = Status::Refused;
             Ok(())
@@ -170,7 +170,7 @@ fn print_packets<R: Source, W: Write>(
         left -= count;
     }
     if silent {
-        return print_remark(alloc, how.json, Remark::NoPacket(port), out);
+        return print_remark(alloc, how.form, Remark::NoPacket(port), out);
     }
     Ok(capture.status)
 }
@@ -220,9 +220,9 @@ pub fn show_packets<R: Source, W: Write>(
 {
     let head = read_up_to(alloc, input, HEAD)?;
     match read_head(alloc, head.as_slice(), port)? {
-        FileHead::NoCapture => print_remark(alloc, how.json, Remark::NoCapture, out),
+        FileHead::NoCapture => print_remark(alloc, how.form, Remark::NoCapture, out),
         FileHead::OtherLink(number) => {
-            print_remark(alloc, how.json, Remark::OtherLink(number), out)
+            print_remark(alloc, how.form, Remark::OtherLink(number), out)
         }
         FileHead::Packets(file) => {
             let most = if head.len() < HEAD {

@@ -17,6 +17,7 @@ use std::alloc::{AllocError, Global};
 use std::io::Write;
 use tpm_output::answer::write;
 use tpm_output::fault::ToolFault;
+use tpm_output::form::Form;
 use tpm_output::status::Status;
 use tpm_output::text::Pushed;
 
@@ -94,33 +95,32 @@ fn push_object(alloc: Global, text: &mut String, remark: Remark) -> Pushed
 }
 
 /// Adds its line, or its object.
-pub(crate) fn push_remark(alloc: Global, text: &mut String, json: bool, remark: Remark) -> Pushed
+pub(crate) fn push_remark(alloc: Global, text: &mut String, form: Form, remark: Remark) -> Pushed
     ensures { OnOk result ((report : List ℕ)
-        × IsReport json (report_of remark) report
+        × IsReport form (report_of remark) report
         × (string_bytes text.new ≡ string_bytes text.old ++ report)) }
 {
-    if json {
-        push_object(alloc, text, remark)
-    } else {
-        push_line(alloc, text, remark)
+    match form {
+        Form::Lines => push_line(alloc, text, remark),
+        Form::Json => push_object(alloc, text, remark),
     }
 }
 
 /// Prints its line, or its object.
 pub(crate) fn print_remark<W: Write>(
     alloc: Global,
-    json: bool,
+    form: Form,
     remark: Remark,
     out: &mut W,
 ) -> Result<Status, ToolFault>
     ensures ok { IfOk result (λ status. (status ≡ Refused)
         × (text : List ℕ)
-        × IsReport json (report_of remark) text
+        × IsReport form (report_of remark) text
         × Appends (W.contents out.old) (W.contents out.new) text) }
     ensures err { FailsByMemoryOrWrite result }
 {
     let mut text = String::new(alloc);
-    push_remark(alloc, &mut text, json, remark)?;
+    push_remark(alloc, &mut text, form, remark)?;
     write(out, &text)?;
     Ok(Status::Refused)
 }

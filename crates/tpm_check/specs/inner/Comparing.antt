@@ -28,7 +28,7 @@ list_line = record { counts = λ _. true; most = most_line; long_ends = true }
 
 -- what is printed of a line that states this, and how the comparison stands behind it
 abbrev pub stated_text : Beside → Stated → List ℕ
-stated_text b s = compared_text b.json (is_value b.value s) s.bank s.register
+stated_text b s = compared_text b.form (is_value b.value s) s.bank s.register
 
 abbrev pub stated_behind : Comparing → Stated → Comparing
 stated_behind c s = record c {
@@ -42,7 +42,7 @@ abbrev pub line_text : Beside → (number : ℕ) → ListLine → List ℕ
 line_text b n (States s) = stated_text b s
 line_text b n (Heads heading) = []
 line_text b n Passes = []
-line_text b n Wrong = not_a_register_text b.json n
+line_text b n Wrong = not_a_register_text b.form n
 
 abbrev pub line_behind : Comparing → ListLine → Option Comparing
 line_behind c (States s) = Some (stated_behind c s)

@@ -4,4 +4,4 @@ use Rattle.tpm_check.specs.declared.beside.Beside.{Beside as InCode}
 use Rattle.tpm_check.specs.Compare.{Beside, beside}
 
 abbrev pub told : InCode → Beside
-told found = beside found.json (value_in found.registers.now.banks)
+told found = beside found.form (value_in found.registers.now.banks)

@@ -6,6 +6,7 @@ use std::alloc::{AllocError, Global};
 use std::test::Fail;
 use tpm_check::{Asked, check_boot, check_extends};
 use tpm_options::CheckOptions;
+use tpm_output::form::Form;
 use tpm_output::status::Status;
 use tpm_testing::Pieces;
 
@@ -26,7 +27,7 @@ fn any_quote() -> CheckOptions<'static> {
     let mut any = options(None);
     any.any_nonce = true;
     any.any_selection = true;
-    any.json = true;
+    any.form = Form::Json;
     any
 }
 

@@ -8,6 +8,7 @@ use std::test::Fail;
 use tpm_check::{Asked, check_log};
 use tpm_options::CheckOptions;
 use tpm_output::fault::ToolFault;
+use tpm_output::form::Form;
 use tpm_output::status::Status;
 use tpm_testing::{Pieces, bytes};
 use tpm_wire::Buffer;
@@ -43,7 +44,7 @@ pub(crate) fn options(quote: Option<&'static str>) -> CheckOptions<'static> {
         secure_boot: false,
         any_state: false,
         extends: false,
-        json: false,
+        form: Form::Lines,
     }
 }
 

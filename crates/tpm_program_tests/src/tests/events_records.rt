@@ -9,6 +9,7 @@ use std::test::Fail;
 use tpm_check::check_boot;
 use tpm_events::list_events;
 use tpm_options::Listing;
+use tpm_output::form::Form;
 use tpm_output::status::Status;
 use tpm_testing::Pieces;
 
@@ -29,7 +30,7 @@ pub(crate) const ALL: Listing<'static> = Listing {
     places: true,
     digests: true,
     event_data: false,
-    json: false,
+    form: Form::Lines,
 };
 
 fn listed(alloc: Global, log: &mut Pieces<'_>) -> Answered {

@@ -10,6 +10,7 @@ use tpm_device::Device;
 use tpm_events::list_events;
 use tpm_output::answer::not_hexadecimal;
 use tpm_output::fault::ToolFault;
+use tpm_output::form::Form;
 use tpm_output::status::Status;
 use tpm_script::{run_script, show_nv};
 use tpm_show::{Telling, build, show, show_fields, show_lines, show_stream};
@@ -18,17 +19,17 @@ use tpm_wire::SliceSource;
 
 const AS_LINES: Telling = Telling {
     fields: false,
-    json: false,
+    form: Form::Lines,
 };
 
 const BY_FIELDS: Telling = Telling {
     fields: true,
-    json: false,
+    form: Form::Lines,
 };
 
 const AS_JSON: Telling = Telling {
     fields: true,
-    json: true,
+    form: Form::Json,
 };
 
 // A call that prints.

@@ -4,6 +4,7 @@ use crate::tests::output_reads::{Answered, each_read_may_fail, is_answered};
 use std::alloc::Global;
 use std::process::Abort;
 use std::test::Fail;
+use tpm_output::form::Form;
 use tpm_output::status::Status;
 use tpm_show::{Telling, show_lines, show_stream};
 use tpm_testing::Pieces;
@@ -31,7 +32,7 @@ const STREAM_TOLD: [usize; 4] = [12, 12, 22, 22];
 
 const AS_LINES: Telling = Telling {
     fields: false,
-    json: false,
+    form: Form::Lines,
 };
 
 fn told(alloc: Global, input: &mut Pieces<'_>) -> Answered {

@@ -44,11 +44,11 @@ returns-in-Err-2-clause-stop g c = λ is. absurd (not_read c.tell_fault.result c
 pub returns-in-Err-2-clause-ok : goal.returns-in-Err-2-clause-ok
 returns-in-Err-2-clause-ok g c =
     let fault = c.in-Err.fault in
-    let json = c.args.asked.now.options.now.json in
+    let form = c.args.asked.now.options.now.form in
     let other : IsOfBytes fault.kind = of_bytes fault.kind (search rules) in
     IfOk-weaker c.tell_fault.result _ _ (λ status printed. (
       Err fault,
-      fault_text json fault ++ ok_text json Refused,
+      fault_text form fault ++ ok_text form Refused,
       c.in-Err.ensures.replays,
       c.in-Err.ensures.reads,
       (refl, other, printed.0, refl),

@@ -12,7 +12,7 @@ returns-clause-ok g c =
     let contents = g.W.Write.contents in
     let said = c.in_ok-status.ensures.ok in
     let status = c.in_ok-status.status in
-    let end = ok_text c.args.found.now.json status in
+    let end = ok_text c.args.found.now.form status in
     IfOk-weaker c.print_ok.result _ _ (λ same printed. (
       said.0,
       said.1 ++ end,

@@ -10,4 +10,4 @@ abbrev pub invariant-loop-bank : goal.invariant-loop-bank
 invariant-loop-bank g l =
     g.T.Teller.state l.out
     ≡ told g.T.Teller.tells (g.T.Teller.state l.initial.out)
-    (flat_map (marks_of_bank l.registers.json (value_in l.registers.found.now.banks)) (take l.bank-index l.banks))
+    (flat_map (marks_of_bank l.registers.form (value_in l.registers.found.now.banks)) (take l.bank-index l.banks))

@@ -9,4 +9,4 @@ abbrev pub invariant-loop-number : goal.invariant-loop-number
 invariant-loop-number g l =
     g.T.Teller.state l.out
     ≡ told g.T.Teller.tells (g.T.Teller.state l.initial.out)
-    (first_told (marks_of_register l.registers.json (value_in l.registers.found.now.banks) l.bank) l.number)
+    (first_told (marks_of_register l.registers.form (value_in l.registers.found.now.banks) l.bank) l.number)

@@ -7,4 +7,4 @@ abbrev pub invariant-loop-extension : goal.invariant-loop-extension
 invariant-loop-extension l =
     string_bytes l.text
     ≡ string_bytes l.initial.text
-    ++ flat_map (unknown_if l.self.json l.bank l.register) (take l.extension-index l.self.found.now)
+    ++ flat_map (unknown_if l.self.form l.bank l.register) (take l.extension-index l.self.found.now)
