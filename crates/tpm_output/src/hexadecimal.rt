@@ -1,7 +1,7 @@
 //! Bytes as hexadecimal text.
 
-ghost use Rattle.std.specs.Prelude.{◌≡◌, IfOk, option_map, string_bytes};
-ghost use Rattle.tpm_output.specs.Text.{bytes_in, bytes_text};
+ghost use Rattle.std.specs.Prelude.{◌≡◌, IfOk, option_map};
+ghost use Rattle.tpm_output.specs.Text.{bytes_in};
 
 use hex::FromHexError;
 use std::alloc::{AllocError, Global};
@@ -17,15 +17,4 @@ pub fn decoded<T: AsSlice<u8> + Drop>(alloc: Global, text: T) -> Result<Option<V
         Err(FromHexError::OutOfMemory) => Err(AllocError),
         Err(_) => Ok(None),
     }
-}
-
-/// Bytes in lower-case hexadecimal digits, two to a byte, or `-` for none. AllocError where a request for memory is
-/// refused.
-pub fn shown_bytes(alloc: Global, bytes: &[u8]) -> Result<String, AllocError>
-    ensures { IfOk result (λ text. string_bytes text ≡ bytes_text bytes.now) }
-{
-    if bytes.is_empty() {
-        return String::from_str(alloc, "-");
-    }
-    hex::encode(alloc, bytes)
 }

@@ -4,9 +4,8 @@ ghost use Rattle.std.specs.Prelude.{◌≡◌, ◌++◌, OnOk, string_bytes};
 ghost use Rattle.hex.specs.Hex.{encode_lower};
 ghost use Rattle.tpm_output.specs.Text.{bytes_line, bytes_text, refusal_line};
 
-use crate::hexadecimal::shown_bytes;
 use crate::puts::put_bytes;
-use std::alloc::{AllocError, Global};
+use std::alloc::AllocError;
 use tpm_wire::Refusal;
 
 /// What adding to a text answers: AllocError where a request for memory is refused.
@@ -29,11 +28,11 @@ pub fn push_refusal(text: &mut String, refusal: &Refusal) -> Pushed
 ///
 /// Where a request for memory is refused what was added is left open.
 #[tactic(auto, unfolding(crate::specs::Text::bytes_line))]
-pub fn push_bytes(alloc: Global, text: &mut String, bytes: &[u8]) -> Pushed
+pub fn push_bytes(text: &mut String, bytes: &[u8]) -> Pushed
     ensures { OnOk result (string_bytes text.new ≡ string_bytes text.old ++ bytes_line bytes.now) }
 {
-    let bytes = shown_bytes(alloc, bytes)?;
-    writeln!(text, "{bytes}")
+    push_shown(text, bytes)?;
+    text.push_str("\n")
 }
 
 /// Adds bytes in lower-case hexadecimal digits, two to a byte.

@@ -1,14 +1,12 @@
 //! NV memory as lines.
 
-ghost use Rattle.std.specs.Prelude.{◌≡◌, ◌++◌, IfOk, OnOk, string_bytes};
+ghost use Rattle.std.specs.Prelude.{◌≡◌, ◌++◌, OnOk, string_bytes};
 ghost use Rattle.tpm_output.specs.Text.{lines_from};
 ghost use Rattle.tpm_script.specs.MemoryText.{attributes_text, counter_line, greatest_line, hash_text, index_text};
 ghost use Rattle.tpm_script.specs.MemoryText.{memory_text, policy_text, public_text, rest_line, value_text, yes_or_no};
 
-use std::alloc::{AllocError, Global};
 use tpm_nv::{Counter, Counters};
-use tpm_output::hexadecimal::shown_bytes;
-use tpm_output::text::Pushed;
+use tpm_output::text::{Pushed, push_shown};
 use tpm_types::{Alg, NvPublic};
 
 fn yes_no(whether: bool) -> &'static str
@@ -17,12 +15,12 @@ fn yes_no(whether: bool) -> &'static str
     if whether { "yes" } else { "no" }
 }
 
-fn shown_value(alloc: Global, value: Option<u64>) -> Result<String, AllocError>
-    ensures { IfOk result (λ text. string_bytes text ≡ value_text value) }
+fn push_value(text: &mut String, value: Option<u64>) -> Pushed
+    ensures { OnOk result (string_bytes text.new ≡ string_bytes text.old ++ value_text value) }
 {
     match value {
-        None => String::from_str(alloc, "-"),
-        Some(value) => format!(in alloc; "{value}"),
+        None => text.push_str("-"),
+        Some(value) => write!(text, "{value}"),
     }
 }
 
@@ -59,60 +57,61 @@ fn push_attributes(text: &mut String, attributes: u32) -> Pushed
 }
 
 #[tactic(auto, unfolding(crate::specs::MemoryText::policy_text))]
-fn push_policy(alloc: Global, text: &mut String, policy: &[u8]) -> Pushed
+fn push_policy(text: &mut String, policy: &[u8]) -> Pushed
     ensures { OnOk result (string_bytes text.new
         ≡ string_bytes text.old ++ policy_text policy.now) }
 {
-    let policy = shown_bytes(alloc, policy)?;
-    write!(text, " policy {policy}")
+    text.push_str(" policy ")?;
+    push_shown(text, policy)
 }
 
 // Adds a counter's public area, the one of this number.
-fn push_public(alloc: Global, text: &mut String, i: usize, public: &NvPublic) -> Pushed
+fn push_public(text: &mut String, i: usize, public: &NvPublic) -> Pushed
     ensures { OnOk result (string_bytes text.new
         ≡ string_bytes text.old ++ public_text i public.now) }
 {
     push_index(text, i, public.index.number())?;
     push_hash(text, public.alg)?;
     push_attributes(text, public.attrs.number())?;
-    push_policy(alloc, text, public.policy.as_slice())
+    push_policy(text, public.policy.as_slice())
 }
 
 #[tactic(auto, unfolding(crate::specs::MemoryText::rest_line))]
-fn push_rest(alloc: Global, text: &mut String, has_auth: bool, value: Option<u64>) -> Pushed
+fn push_rest(text: &mut String, has_auth: bool, value: Option<u64>) -> Pushed
     ensures { OnOk result (string_bytes text.new
         ≡ string_bytes text.old ++ rest_line has_auth value) }
 {
     let authorization = yes_no(has_auth);
-    let value = shown_value(alloc, value)?;
-    writeln!(text, " authorization {authorization} value {value}")
+    write!(text, " authorization {authorization} value ")?;
+    push_value(text, value)?;
+    text.push_str("\n")
 }
 
 // Adds the line of a counter, the one of this number.
-fn push_counter(alloc: Global, text: &mut String, i: usize, counter: &Counter) -> Pushed
+fn push_counter(text: &mut String, i: usize, counter: &Counter) -> Pushed
     ensures { OnOk result (string_bytes text.new
         ≡ string_bytes text.old ++ counter_line i counter.now) }
 {
-    push_public(alloc, text, i, &counter.public())?;
-    push_rest(alloc, text, counter.has_auth(), counter.value())
+    push_public(text, i, &counter.public())?;
+    push_rest(text, counter.has_auth(), counter.value())
 }
 
 // Adds a line for each counter.
-fn push_counters(alloc: Global, text: &mut String, counters: &[Counter]) -> Pushed
+fn push_counters(text: &mut String, counters: &[Counter]) -> Pushed
     ensures { OnOk result (string_bytes text.new
         ≡ string_bytes text.old ++ lines_from counter_line 1 counters.now) }
 {
     for (before, counter) in counters.iter().enumerate() {
-        push_counter(alloc, text, before + 1, counter)?;
+        push_counter(text, before + 1, counter)?;
     }
     Ok(())
 }
 
 /// Adds the lines of NV memory.
-pub(crate) fn push_memory(alloc: Global, text: &mut String, memory: &Counters) -> Pushed
+pub(crate) fn push_memory(text: &mut String, memory: &Counters) -> Pushed
     ensures { OnOk result (string_bytes text.new
         ≡ string_bytes text.old ++ memory_text memory.now) }
 {
     push_greatest(text, memory.greatest())?;
-    push_counters(alloc, text, memory.as_slice())
+    push_counters(text, memory.as_slice())
 }

@@ -35,20 +35,14 @@ struct Run {
 }
 
 // Executes the k-th command, and adds the line of its response.
-fn push_response(
-    alloc: Global,
-    text: &mut String,
-    device: &mut Device,
-    k: u64,
-    bytes: &[u8],
-) -> Pushed
+fn push_response(text: &mut String, device: &mut Device, k: u64, bytes: &[u8]) -> Pushed
     ensures { OnOk result ((added : List ℕ)
         × AddedTo (string_bytes text.old) (string_bytes text.new) added
         × GoesThrough (record { stimuli = Given bytes.now (nonce_of k) ∷ []; refused = None })
         device.old device.new added) }
 {
     let response = device.execute(bytes, &nonce(k));
-    push_bytes(alloc, text, response.as_slice())?;
+    push_bytes(text, response.as_slice())?;
     Ok(())
 }
 
@@ -99,7 +93,7 @@ impl Run {
             ScriptLine::Power => push_power(text, &mut self.device)?,
             ScriptLine::Command(bytes) => {
                 let command = self.command;
-                push_response(alloc, text, &mut self.device, command, bytes.as_slice())?;
+                push_response(text, &mut self.device, command, bytes.as_slice())?;
                 self.command += 1;
             }
             ScriptLine::NotHexadecimal => {

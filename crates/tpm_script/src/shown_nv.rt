@@ -22,7 +22,7 @@ fn answer(alloc: Global, bytes: &[u8]) -> Result<Answer, AllocError>
     match Counters::from_bytes(bytes) {
         Ok(memory) => {
             let mut text = String::new(alloc);
-            push_memory(alloc, &mut text, &memory)?;
+            push_memory(&mut text, &memory)?;
             Ok(Answer::done(text))
         }
         Err(refusal) => Answer::refusal(alloc, &refusal),

@@ -165,7 +165,7 @@ fn spelled(alloc: Global, bytes: &[u8]) -> Result<BuiltText, AllocError>
     ensures { IfOk result (λ b. TextOf b (Spelled bytes.now)) }
 {
     let mut text = String::new(alloc);
-    push_bytes(alloc, &mut text, bytes)?;
+    push_bytes(&mut text, bytes)?;
     Ok(BuiltText {
         built: Built {
             status: Status::Done,
