@@ -1,20 +1,72 @@
 -- What stands before the digits of a line of a list.
-use Rattle.std.proofs.Common.{◌≡◌, ◌<◌, ◌+◌, ◌-◌, ◌∙◌, ℕ, List, [], ◌∷◌, ◌++◌, Option, None, Some, false, length, take, drop, get_or}
-use Rattle.std.proofs.Common.{ap, sym, refl, arith, append_assoc, length-append}
-use Rattle.std.proofs.lemmas.Bool.{eqb-true}
+use Rattle.std.proofs.Common.{◌≡◌, ◌<◌, ◌+◌, ◌-◌, ◌∙◌, ℕ, zero, suc, Bool, true, false, List, [], ◌∷◌, ◌++◌, Option, None, Some, length}
+use Rattle.std.proofs.Common.{take, drop, get_or, ap, sym, refl, arith, append_assoc, length-append}
+use Rattle.std.specs.Prelude.{◌&&◌, ◌||◌}
+use Rattle.std.proofs.lemmas.Bool.{and_parts, eqb-true}
 use Rattle.std.proofs.lemmas.Grind.{common_steps}
-use Rattle.std.proofs.lemmas.List.{get_or_append_left, length-take-le, take-append-drop}
+use Rattle.std.proofs.lemmas.List.{append-nil, get_or_append_left, length-take-le, take-append-drop}
 use Rattle.std.proofs.lemmas.List.Sums.{fails_before_first, passes_at_first, position_or_len_is, split_at_first}
 use Rattle.std.proofs.Math.Seq.{drop-append-add, get_or-append_seam, take-append_seam}
-use Rattle.std.specs.List.{position_or_len}
+use Rattle.std.specs.List.{before_first, list_all, list_any, position_or_len}
+use Rattle.hex.specs.Hex.{is_hex_digit}
 use Rattle.tpm_types.specs.declared.alg.Alg.{Alg}
-use Rattle.tpm_check.specs.declared.allow_lines.AllowLine.TheVariants.{Wrong}
+use Rattle.tpm_vouched.specs.declared.allowed.AllowedDigest.{AllowedDigest}
+use Rattle.tpm_check.specs.declared.allow_lines.AllowLine.TheVariants.{Allows, Wrong}
 use Rattle.tpm_output.specs.Text.{bytes_in}
 use Rattle.tpm_check.specs.declared.allow_lines.Front.{Front}
-use Rattle.tpm_check.specs.inner.AllowReading.{IsFront}
-use Rattle.tpm_check.proofs.Spelling.{other_length, two_bytes}
-use Rattle.tpm_check.specs.AllowLines.{allowing, allowing_in, allowing_named}
+use Rattle.tpm_check.specs.inner.AllowReading.{IsFront, ends_word}
+use Rattle.tpm_check.proofs.Spelling.{other_byte, other_length, two_bytes}
+use Rattle.tpm_check.specs.AllowLines.{allow_line, allowing, allowing_in, allowing_named, before_comment, begins_comment, is_blank}
 use Rattle.tpm_check.specs.Compare.{bank_named, behind_word, first_word, is_space, register_named}
+
+-- ---- bytes of which none passes a test
+
+either : (a b : Bool) → (a || b) ≡ false → (a ≡ false) × (b ≡ false)
+either true b is = absurd cc
+either false b is = (refl, is)
+
+module _ (test : ℕ → Bool) where
+  pub none_in_first : (n : ℕ) (xs : List ℕ) → list_any test xs ≡ false → list_any test (take n xs) ≡ false
+  none_in_first zero xs none = refl
+  none_in_first (suc n) [] none = refl
+  none_in_first (suc n) (x ∷ xs) none =
+      let parts = either (test x) (list_any test xs) none in
+      rw (parts.0) (none_in_first n xs parts.1)
+
+  ends_there : (x : ℕ) (xs : List ℕ) → test x ≡ true → before_first test (x ∷ xs) ≡ []
+  ends_there x xs is = rw is refl
+
+  goes_on : (x : ℕ) (xs : List ℕ) → test x ≡ false → before_first test (x ∷ xs) ≡ x ∷ before_first test xs
+  goes_on x xs isnt =
+      let n = position_or_len test xs in
+      let one : 1 + n ≡ suc n = omega arith in
+      rw isnt (ap (λ (k : ℕ). take k (x ∷ xs)) one)
+
+  pub none_before : (xs : List ℕ) → list_any test (before_first test xs) ≡ false
+  none_before [] = refl
+  none_before (x ∷ xs) = go (test x) refl (none_before xs)
+    where
+      go : (b : Bool) → test x ≡ b → list_any test (before_first test xs) ≡ false → list_any test (before_first test (x ∷ xs)) ≡ false
+      go true is none = ap (list_any test) (ends_there x xs is)
+      go false isnt none = ap (list_any test) (goes_on x xs isnt) ∙ ap (λ (b : Bool). b || list_any test (before_first test xs)) isnt ∙ none
+
+  all_before : (xs ys : List ℕ) → list_any test xs ≡ false → before_first test (xs ++ ys) ≡ xs ++ before_first test ys
+  all_before [] ys none = refl
+  all_before (x ∷ xs) ys none =
+      let parts = either (test x) (list_any test xs) none in
+      goes_on x (xs ++ ys) parts.0 ∙ ap (λ (l : List ℕ). x ∷ l) (all_before xs ys parts.1)
+
+  -- nor a digit
+  none_of_digits : (hit : ℕ) → ((c : ℕ) → test c ≡ true → c ≡ hit) → is_hex_digit hit ≡ false
+      → (digits : List ℕ) → list_all is_hex_digit digits ≡ true → list_any test digits ≡ false
+  none_of_digits hit only other [] all = refl
+  none_of_digits hit only other (d ∷ digits) all =
+      let parts = and_parts (is_hex_digit d) (list_all is_hex_digit digits) all in
+      go (test d) refl parts.0 (none_of_digits hit only other digits parts.1)
+    where
+      go : (b : Bool) → test d ≡ b → is_hex_digit d ≡ true → list_any test digits ≡ false → (test d || list_any test digits) ≡ false
+      go true is digit none = absurd (let z : true ≡ false = sym digit ∙ ap is_hex_digit (only d is) ∙ other in cc)
+      go false isnt digit none = ap (λ (b : Bool). b || list_any test digits) isnt ∙ none
 
 -- ---- a word with a space behind it
 
@@ -109,6 +161,82 @@ pub behind_front : (front : Front) (text : List ℕ) → IsFront front → take 
     → allowing front.bank front.register (bytes_in (first_word (drop (length front.text.now) text))) ≡ allowing_in text
 behind_front front text tells begins =
     let n = length front.text.now in
-    sym (tells (drop n text))
+    sym (tells.0 (drop n text))
     ∙ ap (λ (l : List ℕ). allowing_in (l ++ drop n text)) (sym begins)
     ∙ ap allowing_in (take-append-drop n text)
+
+-- ---- a line that goes on with digits
+
+second : (a b : Bool) → (a || b) ≡ true → b ≡ false → a ≡ true
+second true b is isnt = refl
+second false b is isnt = absurd (let z : true ≡ false = sym is ∙ isnt in cc)
+
+no_space_in : (digits : List ℕ) → list_all is_hex_digit digits ≡ true → list_any is_space digits ≡ false
+no_space_in = none_of_digits is_space 32 (λ c is. eqb-true c 32 is) refl
+
+no_comment_in : (digits : List ℕ) → list_all is_hex_digit digits ≡ true → list_any begins_comment digits ≡ false
+no_comment_in = none_of_digits begins_comment 35 (λ c is. eqb-true c 35 is) refl
+
+no_word : (rest : List ℕ) → ends_word rest ≡ true → first_word (before_comment rest) ≡ []
+no_word [] ends = refl
+no_word (byte ∷ rest) ends = go (begins_comment byte) refl
+  where
+    go : (b : Bool) → begins_comment byte ≡ b → first_word (before_comment (byte ∷ rest)) ≡ []
+    go true is = ap first_word (ends_there begins_comment byte rest is)
+    go false isnt =
+        ap first_word (goes_on begins_comment byte rest isnt)
+        ∙ ends_there is_space byte (before_comment rest) (second (is_space byte) (begins_comment byte) ends isnt)
+
+not_blank : (front digits rest : List ℕ) → 0 < length digits → list_all is_hex_digit digits ≡ true → is_blank (front ++ (digits ++ rest)) ≡ false
+not_blank [] [] rest some all = absurd (omega (arith, some))
+not_blank [] (d ∷ digits) rest some all =
+    let none = either (is_space d) (list_any is_space digits) (no_space_in (d ∷ digits) all) in
+    rw (none.0) refl
+not_blank (byte ∷ front) digits rest some all = go (is_space byte) (not_blank front digits rest some all)
+  where
+    go : (b : Bool) → is_blank (front ++ (digits ++ rest)) ≡ false → (b && is_blank (front ++ (digits ++ rest))) ≡ false
+    go true is = is
+    go false is = refl
+
+pub digits_behind : (front : Front) (digits rest : List ℕ) → IsFront front → 0 < length digits → list_all is_hex_digit digits ≡ true
+    → ends_word rest ≡ true → allow_line (front.text.now ++ (digits ++ rest)) ≡ allowing front.bank front.register (bytes_in digits)
+digits_behind front digits rest tells some all ends =
+    let behind = digits ++ before_comment rest in
+    let whole : before_comment (front.text.now ++ (digits ++ rest)) ≡ front.text.now ++ behind =
+    all_before begins_comment front.text.now (digits ++ rest) tells.1
+    ∙ ap (λ (l : List ℕ). front.text.now ++ l) (all_before begins_comment digits rest (no_comment_in digits all)) in
+    let word : first_word behind ≡ digits =
+    all_before is_space digits (before_comment rest) (no_space_in digits all)
+    ∙ ap (λ (l : List ℕ). digits ++ l) (no_word rest ends) ∙ append-nil digits in
+    rw (whole, not_blank front.text.now digits (before_comment rest) some all)
+    (tells.0 behind ∙ ap (λ (l : List ℕ). allowing front.bank front.register (bytes_in l)) word)
+
+module _ (bank : Alg) (register : ℕ) (digits : List ℕ) (a : AllowedDigest) (is : allowing bank register (bytes_in digits) ≡ Allows a) where
+  not_wrong : allowing bank register (bytes_in digits) ≡ Wrong → ⊥
+  not_wrong wrong = absurd (let z : Wrong ≡ Allows a = sym wrong ∙ is in cc z)
+
+  some_digits : 0 < length digits
+  some_digits = go digits refl
+    where
+      go : (ds : List ℕ) → digits ≡ ds → 0 < length digits
+      go [] none = absurd (not_wrong (other_length bank register digits (λ same. omega (arith, same, ap length none, two_bytes bank))))
+      go (d ∷ ds) some = let long = ap length some in omega (arith, long)
+
+  all_digits : list_all is_hex_digit digits ≡ true
+  all_digits = go (list_all is_hex_digit digits) refl
+    where
+      go : (b : Bool) → list_all is_hex_digit digits ≡ b → list_all is_hex_digit digits ≡ true
+      go true all = all
+      go false other = absurd (not_wrong (other_byte bank register digits other))
+
+-- A line that begins so, and goes on with digits to the end of a word, allows what they spell.
+pub allowed_behind : (front : Front) (line digits rest : List ℕ) (a : AllowedDigest) → IsFront front
+    → take (length front.text.now) line ≡ front.text.now → drop (length front.text.now) line ≡ digits ++ rest → ends_word rest ≡ true
+    → allowing front.bank front.register (bytes_in digits) ≡ Allows a → allow_line line ≡ Allows a
+allowed_behind front line digits rest a tells begins behind ends is =
+    let n = length front.text.now in
+    let whole : line ≡ front.text.now ++ (digits ++ rest) =
+    sym (take-append-drop n line) ∙ ap (λ (l : List ℕ). l ++ drop n line) begins ∙ ap (λ (l : List ℕ). front.text.now ++ l) behind in
+    ap allow_line whole
+    ∙ digits_behind front digits rest tells (some_digits front.bank front.register digits a is) (all_digits front.bank front.register digits a is) ends
+    ∙ is

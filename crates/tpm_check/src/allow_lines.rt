@@ -1,11 +1,14 @@
 //! The lines of a list of allowed digests.
 
-ghost use Rattle.std.specs.Prelude.{◌≡◌, ◌<◌, ◌≤◌, ◌^◌, ◌∷◌, IfOk, IfSome, length, option_map, position};
+ghost use Rattle.std.specs.Prelude.{◌≡◌, ◌<◌, ◌≤◌, ◌^◌, ◌∷◌, if◌then◌else◌, false, IfOk, IfSome, length};
+ghost use Rattle.std.specs.Prelude.{option_map, position};
 ghost use Rattle.memchr.specs.Find.{is_byte};
-ghost use Rattle.std.specs.List.{before_first, slice_split};
+ghost use Rattle.std.specs.List.{before_first, list_any, slice_split};
 ghost use Rattle.tpm_output.specs.Text.{bytes_in};
-ghost use Rattle.tpm_check.specs.AllowLines.{allow_line, allowed_in, allowing, allowing_in, is_blank, is_feed};
-ghost use Rattle.tpm_check.specs.inner.AllowReading.{IsFront, IsFrontOf, lines_left, read_as};
+ghost use Rattle.tpm_check.specs.AllowLines.{allow_line, allowed_in, allowing, allowing_in, begins_comment};
+ghost use Rattle.tpm_check.specs.AllowLines.{is_blank, is_feed};
+ghost use Rattle.tpm_check.specs.declared.allow_lines.AllowLine.TheVariants.{Allows, Nothing};
+ghost use Rattle.tpm_check.specs.inner.AllowReading.{IsFront, IsFrontOf, ends_word, lines_left, read_as};
 
 use crate::allowed_line::AllowedLine;
 use crate::stated::{bank_named, cut, register_named};
@@ -65,6 +68,7 @@ struct Front<'a> {
 
 // What stands before the digits of a line, where there are any.
 fn front_of(text: &[u8]) -> Option<Front<'_>>
+    requires { list_any begins_comment text.now ≡ false }
     ensures { IsFrontOf text.now result }
 {
     let (bank, behind) = cut(text);
@@ -82,24 +86,34 @@ fn front_of(text: &[u8]) -> Option<Front<'_>>
     }
 }
 
-// The same, beside that of the line before, which most lines have, too.
-fn front_beside<'a>(text: &'a [u8], last: &Option<Front<'a>>) -> Option<Front<'a>>
+// Whether a word of a line ends before these bytes.
+fn ends_word(behind: &[u8]) -> bool
+    ensures { result ≡ ends_word behind.now }
+{
+    matches!(behind, [] | [b' ' | b'#', ..])
+}
+
+// The digest of a line that begins as the one before, as most do. So neither a space nor a comment is looked for.
+fn read_behind<'a>(line: &'a [u8], front: &Front<'_>) -> Option<AllowedLine<'a>>
+    requires { IsFront front.now }
+    ensures { IfSome result (λ allowed. allow_line line.now ≡ Allows allowed) }
+{
+    let behind = line.strip_prefix(front.text)?;
+    let (digits, rest) = behind.split_at_checked(2 * front.bank.digest_len())?;
+    if !ends_word(rest) {
+        return None;
+    }
+    AllowedLine::new(front.bank, front.register, digits)
+}
+
+// That beside the line before, where there is one.
+fn read_beside<'a>(line: &'a [u8], last: &Option<Front<'_>>) -> Option<AllowedLine<'a>>
     requires { IfSome last.now IsFront }
-    ensures { IsFrontOf text.now result }
+    ensures { IfSome result (λ allowed. allow_line line.now ≡ Allows allowed) }
 {
     match last {
-        Some(
-            Front {
-                bank,
-                register,
-                text: front,
-            },
-        ) if text.starts_with(front) => Some(Front {
-            bank: *bank,
-            register: *register,
-            text: front,
-        }),
-        _ => front_of(text),
+        Some(front) => read_behind(line, front),
+        None => None,
     }
 }
 
@@ -123,20 +137,32 @@ fn read_words<'a>(text: &'a [u8], front: &Option<Front<'a>>) -> AllowLine<'a>
     }
 }
 
+// What is said before a comment, and what stands before its digits.
+fn read_text<'a>(text: &'a [u8], last: &mut Option<Front<'a>>) -> AllowLine<'a>
+    requires none { list_any begins_comment text.now ≡ false }
+    requires last { IfSome last.old IsFront }
+    ensures said { result ≡ if is_blank text.now then Nothing else allowing_in text.now }
+    ensures last { IfSome last.new IsFront }
+{
+    if is_blank(text) {
+        return AllowLine::Nothing;
+    }
+    let front = front_of(text);
+    let said = read_words(text, &front);
+    *last = front;
+    said
+}
+
 // What a line says, and what stands before its digits.
 fn read_line<'a>(line: &'a [u8], last: &mut Option<Front<'a>>) -> AllowLine<'a>
     requires { IfSome last.old IsFront }
     ensures said { result ≡ allow_line line.now }
     ensures last { IfSome last.new IsFront }
 {
-    let text = before(b'#', line);
-    if is_blank(text) {
-        return AllowLine::Nothing;
+    match read_beside(line, last) {
+        Some(allowed) => AllowLine::Allows(allowed),
+        None => read_text(before(b'#', line), last),
     }
-    let front = front_beside(text, last);
-    let said = read_words(text, &front);
-    *last = front;
-    said
 }
 
 // The first line, and what stands behind its line feed, where it has one.

@@ -1,20 +1,24 @@
 //! What a line of a list allows: a digest, by the digits that spell it there; and a digest that is looked for.
 //!
 //! A processor foresees no digit, so that no branch goes by one where a digest is looked for. `hex` decodes by a branch
-//! for each digit, but encodes by a table: so the digits of that digest are made, once, and compared.
+//! for each digit, but encodes by a table: so the digits of that digest are made, and compared. Beside one line each is
+//! compared as it is made; for a chain of lines all are made once.
 
-ghost use Rattle.std.specs.Prelude.{◌≡◌, ◌≤◌, ◌<◌, ◌*◌, ◌||◌, length, map, nat_eq, MatchOption};
+ghost use Rattle.std.specs.Prelude.{◌≡◌, ◌≤◌, ◌<◌, ◌*◌, ◌||◌, ◌∷◌, [], true, length, map, nat_eq};
+ghost use Rattle.std.specs.Prelude.{IsTrue, MatchOption};
 ghost use Rattle.std.specs.Char.{to_ascii_lowercase};
 ghost use Rattle.std.specs.Cmp.Lexicographic.{pointwise};
 ghost use Rattle.std.specs.List.{list_all};
-ghost use Rattle.hex.specs.Hex.{is_hex_digit};
+ghost use Rattle.hex.specs.Hex.{encode_lower, is_hex_digit};
 ghost use Rattle.tpm_types.specs.Limits.{digest_bytes};
+ghost use Rattle.tpm_vouched.specs.Allowed.{is_for};
 ghost use Rattle.tpm_output.specs.Text.{bytes_in};
 ghost use Rattle.tpm_check.specs.declared.allow_lines.AllowLine.TheVariants.{Allows, Wrong};
 ghost use Rattle.tpm_check.specs.AllowLines.{allowing};
 ghost use Rattle.tpm_check.specs.inner.AllowIndex.{bucket, digits_bucket, is_this, low};
 
 use std::marker::Model;
+use std::slice;
 use tpm_types::{Alg, DIGEST_BYTES, PcrIndex};
 
 /// How many buckets digests lie in.
@@ -60,6 +64,28 @@ fn is_lower_case(digits: &[u8], text: &[u8]) -> bool
     lower.copy_from_slice(digits);
     lower.make_ascii_lowercase();
     *lower == *text
+}
+
+// Whether these two digits are those of the byte, in lower case.
+fn are_of(high: u8, low: u8, byte: u8) -> bool
+    ensures { IsTrue result → high ∷ low ∷ [] ≡ encode_lower (byte ∷ []) }
+{
+    let mut digits = [0; 2];
+    hex::encode_to_slice(slice::from_ref(&byte), &mut digits).unwrap();
+    digits == [high, low]
+}
+
+// Whether these digits are those of the bytes, in lower case.
+fn spell(digits: &[u8], bytes: &[u8]) -> bool
+    ensures { IsTrue result → digits.now ≡ encode_lower bytes.now }
+{
+    match bytes {
+        [] => digits.is_empty(),
+        [byte, bytes @ ..] => match digits {
+            [high, low, digits @ ..] => are_of(*high, *low, *byte) && spell(digits, bytes),
+            _ => false,
+        },
+    }
 }
 
 /// A digest by which a register may be extended, with as many bytes as those of its bank's hash have.
@@ -175,6 +201,20 @@ impl<'a> AllowedLine<'a> {
         digits_bucket(self.digits)
     }
 
+    // Whether it is for this register of the bank.
+    fn is_for(&self, bank: Alg, register: u32) -> bool
+        ensures { result ≡ is_for bank register self.now }
+    {
+        self.bank.number() == bank.number() && self.register.number() == register
+    }
+
+    /// Whether it is this one, for this register, in digits of lower case. Where it isn't, it may be in others.
+    pub(crate) fn is_in_lower_case(&self, bank: Alg, register: u32, digest: &[u8]) -> bool
+        ensures { IsTrue result → is_this bank register digest.now self.now ≡ true }
+    {
+        self.is_for(bank, register) && spell(self.digits, digest)
+    }
+
     // Whether the digest is the one that is looked for.
     fn spells(&self, sought: &Sought<'_>) -> bool
         ensures { result ≡ pointwise nat_eq self.now.digest.1 sought.now.digest.1 }
@@ -188,8 +228,6 @@ impl<'a> AllowedLine<'a> {
         ensures { result
             ≡ is_this sought.now.digest.0 sought.now.register sought.now.digest.1 self.now }
     {
-        self.bank.number() == sought.bank.number()
-            && self.register.number() == sought.register
-            && self.spells(sought)
+        self.is_for(sought.bank, sought.register) && self.spells(sought)
     }
 }

@@ -1,6 +1,6 @@
 use Rattle.std.proofs.Common.{◌≡◌, ◌+◌, ◌-◌, sym, ◌∙◌, arith}
 use Rattle.tpm_check.proofs.AllowFinding.{chain_on, last_found, leads_on, none_found}
-use Rattle.tpm_check.proofs.allow_index.is_in_chain.Goals as goal
+use Rattle.tpm_check.proofs.allow_index.find_in_chain.Goals as goal
 
 pub loop-end-init : goal.loop-end-init
 loop-end-init c = leads_on c.args.digests.now c.args.sought.now.digest.0 c.args.sought.now.register c.args.sought.now.digest.1 c.args.end c.requires.ends
