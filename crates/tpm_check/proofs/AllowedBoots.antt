@@ -1,5 +1,5 @@
 -- A log beside a quote and a list of allowed digests.
-use Rattle.std.proofs.Common.{◌≡◌, ◌<◌, ◌≤◌, codes, Bool, List, [], ◌∷◌, ℕ, ◌++◌, ap}
+use Rattle.std.proofs.Common.{◌≡◌, ◌<◌, ◌≤◌, codes, List, [], ◌∷◌, ℕ, ◌++◌, ap}
 use Rattle.std.proofs.Common.{◌∙◌, append_assoc, arith, false, inl, length, map, refl, subst, sym, Ok, Some}
 use Rattle.std.proofs.lemmas.Bool.{le-ltb, lt-ltb}
 use Rattle.std.specs.Prelude.{MatchOption, Option}

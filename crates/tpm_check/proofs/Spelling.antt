@@ -1,6 +1,6 @@
 -- What hexadecimal digits spell, two to a byte.
-use Rattle.std.proofs.Common.{◌≡◌, ◌<◌, ◌≤◌, ◌+◌, ◌*◌, ◌/◌, ◌%◌, ◌-◌, ℕ, List, [], ◌∷◌, ◌++◌, Bool, true, false, Some, None, Ok, Err}
-use Rattle.std.proofs.Common.{length, slice_index, take, drop, get_or, zero, suc}
+use Rattle.std.proofs.Common.{◌≡◌, ◌<◌, ◌≤◌, ◌+◌, ◌*◌, ◌/◌, ◌%◌, ℕ, List, [], ◌∷◌, Bool, true, false, Some, None, Ok, Err}
+use Rattle.std.proofs.Common.{length, slice_index, take, zero, suc}
 use Rattle.std.proofs.Common.{arith, refl, ap, sym, ◌∙◌, Result, eqb, inl, inr, map}
 use Rattle.std.specs.Prelude.{◌&&◌, Option, min, nat_eq, unwrap_or}
 use Rattle.std.specs.Bool.{one_answer}
@@ -233,32 +233,6 @@ module _ (bank : Alg) (digits digest text : List ℕ) (are : (bytes_in digits �
   pub lower_as_made : pointwise nat_eq (map to_ascii_lowercase digits) text ≡ pointwise nat_eq (spelled digits) digest
   lower_as_made =
       ap (pointwise nat_eq (map to_ascii_lowercase digits)) all_digits ∙ same_digits digits (spelled digits) digest are.0 made.1
-
--- ---- digits that are made one after the other
-
-pub none_spelled : (digits bytes : List ℕ) → length digits ≡ 0 → length bytes ≡ 0 → digits ≡ encode_lower bytes
-unfolding encode_with
-none_spelled [] [] none empty = refl
-none_spelled (digit ∷ digits) bytes none empty = absurd (omega (arith, none))
-none_spelled [] (byte ∷ bytes) none empty = absurd (omega (arith, empty))
-
-pub one_more_spelled : (digits bytes : List ℕ) → 2 ≤ length digits → 1 ≤ length bytes
-    → get_or digits 0 0 ∷ get_or digits 1 0 ∷ [] ≡ encode_lower (get_or bytes 0 0 ∷ [])
-    → take (length digits - 2) (drop 2 digits) ≡ encode_lower (take (length bytes - 1) (drop 1 bytes)) → digits ≡ encode_lower bytes
-unfolding encode_with
-one_more_spelled [] bytes two one begins behind = absurd (omega (arith, two))
-one_more_spelled (first ∷ []) bytes two one begins behind = absurd (omega (arith, two))
-one_more_spelled (first ∷ second ∷ digits) [] two one begins behind = absurd (omega (arith, one))
-one_more_spelled (first ∷ second ∷ digits) (byte ∷ bytes) two one begins behind =
-    let rest : digits ≡ encode_lower bytes =
-    sym (take_all (length (first ∷ second ∷ digits) - 2) digits (omega arith)) ∙ behind
-    ∙ ap encode_lower (take_all (length (byte ∷ bytes) - 1) bytes (omega arith)) in
-    ap (λ (l : List ℕ). l ++ digits) begins ∙ ap (λ (l : List ℕ). encode_lower (byte ∷ []) ++ l) rest
-
-module _ (bank : Alg) (digits digest : List ℕ) (are : (bytes_in digits ≡ Some (spelled digits)) × (length (spelled digits) ≡ digest_len bank))
-    (bytes : IsBytes digest) where
-  pub spells_it : digits ≡ encode_lower digest → pointwise nat_eq (spelled digits) digest ≡ true
-  spells_it same = (bytes_eq-Decides (spelled digits) digest).1 (one_digest digits (spelled digits) digest are.0 bytes same)
 
 -- ---- the first bytes
 

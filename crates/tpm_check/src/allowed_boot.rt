@@ -28,7 +28,7 @@ use crate::beside::Beside;
 use crate::check_json::{fault_answer, push_ok};
 use crate::checked::tell_fault;
 use crate::compared::MOST_BYTES;
-use crate::extensions::{Extension, extensions_in};
+use crate::extensions::{Extension, unknown_in};
 use crate::judged::answer_to_attest;
 use crate::looked_up::{LookedUp, look_up};
 use crate::quoted_boot::{quoted_banks, selected};
@@ -89,19 +89,19 @@ struct VouchedLog<'a, 'b, 'c> {
 
 impl<'a, 'b, 'c> VouchedLog<'a, 'b, 'c> {
     // What is printed of it beside these digests.
-    fn answer_to_digests(
+    fn answer_to_digests<'d>(
         &self,
         alloc: Global,
-        digests: &[AllowedLine<'_>],
+        digests: &'d [AllowedLine<'d>],
     ) -> Result<Answer, AllocError>
         requires { length digests.now < 2 ^ 32 }
         ensures { IfOk result (λ a. SaysOfRead (vouched_log self.now) (Ok digests.now)
             (printed a.status (string_bytes a.text))) }
     {
-        let list = &AllowIndex::new(alloc, digests)?;
-        let found = extensions_in(alloc, Some(list), self.log)?;
+        let mut list = AllowIndex::new(alloc, digests)?;
+        let found = unknown_in(alloc, &mut list, self.log)?;
         let told = AllowTold {
-            list,
+            list: &list,
             found: found.as_slice(),
             form: self.options.form,
         };
@@ -332,8 +332,8 @@ pub(crate) fn print_looked_up<L: Source, W: Write>(
 {
     match digests_of(alloc, allow)? {
         Some(digests) => {
-            let list = AllowIndex::new(alloc, digests.as_slice())?;
-            let found = look_up(alloc, log, &list)?;
+            let mut list = AllowIndex::new(alloc, digests.as_slice())?;
+            let found = look_up(alloc, log, &mut list)?;
             print_found(alloc, options, attest, &list, &found, out)
         }
         None => {

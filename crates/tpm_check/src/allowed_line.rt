@@ -1,15 +1,13 @@
 //! What a line of a list allows: a digest, by the digits that spell it there; and a digest that is looked for.
 //!
 //! A processor foresees no digit, so that no branch goes by one where a digest is looked for. `hex` decodes by a branch
-//! for each digit, but encodes by a table: so the digits of that digest are made, and compared. Beside one line each is
-//! compared as it is made; for a chain of lines all are made once.
+//! for each digit, but encodes by a table: so the digits of that digest are made once, and compared.
 
-ghost use Rattle.std.specs.Prelude.{◌≡◌, ◌≤◌, ◌<◌, ◌*◌, ◌||◌, ◌∷◌, [], true, length, map, nat_eq};
-ghost use Rattle.std.specs.Prelude.{IsTrue, MatchOption};
+ghost use Rattle.std.specs.Prelude.{◌≡◌, ◌≤◌, ◌<◌, ◌*◌, ◌||◌, length, map, nat_eq, MatchOption};
 ghost use Rattle.std.specs.Char.{to_ascii_lowercase};
 ghost use Rattle.std.specs.Cmp.Lexicographic.{pointwise};
 ghost use Rattle.std.specs.List.{list_all};
-ghost use Rattle.hex.specs.Hex.{encode_lower, is_hex_digit};
+ghost use Rattle.hex.specs.Hex.{is_hex_digit};
 ghost use Rattle.tpm_types.specs.Limits.{digest_bytes};
 ghost use Rattle.tpm_vouched.specs.Allowed.{is_for};
 ghost use Rattle.tpm_output.specs.Text.{bytes_in};
@@ -18,7 +16,6 @@ ghost use Rattle.tpm_check.specs.AllowLines.{allowing};
 ghost use Rattle.tpm_check.specs.inner.AllowIndex.{bucket, digits_bucket, is_this, low};
 
 use std::marker::Model;
-use std::slice;
 use tpm_types::{Alg, DIGEST_BYTES, PcrIndex};
 
 /// How many buckets digests lie in.
@@ -66,25 +63,20 @@ fn is_lower_case(digits: &[u8], text: &[u8]) -> bool
     *lower == *text
 }
 
-// Whether these two digits are those of the byte, in lower case.
-fn are_of(high: u8, low: u8, byte: u8) -> bool
-    ensures { IsTrue result → high ∷ low ∷ [] ≡ encode_lower (byte ∷ []) }
-{
-    let mut digits = [0; 2];
-    hex::encode_to_slice(slice::from_ref(&byte), &mut digits).unwrap();
-    digits == [high, low]
-}
+// How many digits a digest of SHA-256 has.
+const SHA256_DIGITS: usize = 64;
 
-// Whether these digits are those of the bytes, in lower case.
-fn spell(digits: &[u8], bytes: &[u8]) -> bool
-    ensures { IsTrue result → digits.now ≡ encode_lower bytes.now }
+// Whether these are the same digits. Of SHA-256, as most are, so many are compared without a loop.
+#[inline(always)]
+fn are_same(digits: &[u8], others: &[u8]) -> bool
+    ensures { result ≡ pointwise nat_eq digits.now others.now }
 {
-    match bytes {
-        [] => digits.is_empty(),
-        [byte, bytes @ ..] => match digits {
-            [high, low, digits @ ..] => are_of(*high, *low, *byte) && spell(digits, bytes),
-            _ => false,
-        },
+    match (
+        digits.as_array::<SHA256_DIGITS>(),
+        others.as_array::<SHA256_DIGITS>(),
+    ) {
+        (Some(digits), Some(others)) => digits == others,
+        _ => digits == others,
     }
 }
 
@@ -142,6 +134,7 @@ impl<'a> Model for Sought<'a> {
 
 impl<'a> Sought<'a> {
     /// This one, whose digits are put into the room.
+    #[inline(always)]
     pub(crate) fn new(
         bank: Alg,
         register: u32,
@@ -202,28 +195,24 @@ impl<'a> AllowedLine<'a> {
     }
 
     // Whether it is for this register of the bank.
+    #[inline(always)]
     fn is_for(&self, bank: Alg, register: u32) -> bool
         ensures { result ≡ is_for bank register self.now }
     {
         self.bank.number() == bank.number() && self.register.number() == register
     }
 
-    /// Whether it is this one, for this register, in digits of lower case. Where it isn't, it may be in others.
-    pub(crate) fn is_in_lower_case(&self, bank: Alg, register: u32, digest: &[u8]) -> bool
-        ensures { IsTrue result → is_this bank register digest.now self.now ≡ true }
-    {
-        self.is_for(bank, register) && spell(self.digits, digest)
-    }
-
     // Whether the digest is the one that is looked for.
+    #[inline(always)]
     fn spells(&self, sought: &Sought<'_>) -> bool
         ensures { result ≡ pointwise nat_eq self.now.digest.1 sought.now.digest.1 }
     {
         self.digits.len() == 2 * sought.digest.len()
-            && (*self.digits == *sought.digits || is_lower_case(self.digits, sought.digits))
+            && (are_same(self.digits, sought.digits) || is_lower_case(self.digits, sought.digits))
     }
 
     /// Whether it is the one that is looked for, and for that register.
+    #[inline(always)]
     pub(crate) fn is_this(&self, sought: &Sought<'_>) -> bool
         ensures { result
             ≡ is_this sought.now.digest.0 sought.now.register sought.now.digest.1 self.now }

@@ -9,11 +9,12 @@ returns-in_ok-found-in-Some-clause-ok g c =
     let allow = c.args.allow.now in
     let read : AreAllOf allow c.in-Some.digests.items × (length c.in-Some.digests.items < 2 ^ 32) =
     rw c.in-Some.is at c.in_ok-digests.ensures in
-    let listed = c.in_ok-list-in-Some.ensures ∙ c.as_slice.ensures.value in
+    let same = c.look_up.ensures.same in
+    let listed = same ∙ c.in_ok-list-in-Some.ensures ∙ c.as_slice.ensures.value in
     let are = subst (λ (ds : List AllowedDigest). AreAllOf allow ds) (sym listed) read.0 in
     let looked = c.in_ok-found-in-Some.ensures.ok in
     IfOk-weaker c.print_found.result _ _ (λ status prints.
-    let printed = prints allow looked.0 are looked.2 in (
+    let printed = prints allow looked.0 are (rw same looked.2) in (
       looked.0,
       printed.0,
       looked.1,

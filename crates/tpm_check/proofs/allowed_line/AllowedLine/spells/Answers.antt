@@ -9,16 +9,16 @@ use Rattle.tpm_check.proofs.allowed_line.AllowedLine.spells.Goals as goal
 pub is_lower_case-requires : goal.is_lower_case-requires
 is_lower_case-requires c = (four_to_most c.self.inside.bank c.self.inside.digits.now c.self.invariant).1
 
-pub returns-then-eq : goal.returns-then-eq
-returns-then-eq c =
-    c.if-eq.true
+pub returns-then-are_same : goal.returns-then-are_same
+returns-then-are_same c =
+    c.if-are_same.true
     ∙ same_as_made c.self.inside.bank c.self.inside.digits.now c.sought.inside.digest.now c.sought.inside.digits.now c.self.invariant
-    c.if-self-sought.true c.sought.invariant (sym c.eq.ensures ∙ c.if-eq.true)
+    c.if-self-sought.true c.sought.invariant (sym c.are_same.ensures ∙ c.if-are_same.true)
     ∙ ap (λ (a : AllowedDigest). pointwise nat_eq a.digest.1 c.sought.inside.digest.now) c.self.view_is
     ∙ ap (λ (a : AllowedDigest). pointwise nat_eq c.args.self.now.digest.1 a.digest.1) c.sought.view_is
 
-pub returns-else-eq : goal.returns-else-eq
-returns-else-eq c =
+pub returns-else-are_same : goal.returns-else-are_same
+returns-else-are_same c =
     c.is_lower_case.ensures
     ∙ lower_as_made c.self.inside.bank c.self.inside.digits.now c.sought.inside.digest.now c.sought.inside.digits.now c.self.invariant
     c.if-self-sought.true c.sought.invariant
