@@ -5,9 +5,10 @@ use Rattle.std.specs.Prelude.{◌&&◌, ◌||◌}
 use Rattle.std.proofs.lemmas.Bool.{and_parts, eqb-true}
 use Rattle.std.proofs.lemmas.Grind.{common_steps}
 use Rattle.std.proofs.lemmas.List.{append-nil, get_or_append_left, length-take-le, take-append-drop}
+use Rattle.std.proofs.lemmas.List.Splits.{slice_split-cons_no}
 use Rattle.std.proofs.lemmas.List.Sums.{fails_before_first, passes_at_first, position_or_len_is, split_at_first}
 use Rattle.std.proofs.Math.Seq.{drop-append-add, get_or-append_seam, take-append_seam}
-use Rattle.std.specs.List.{before_first, list_all, list_any, position_or_len}
+use Rattle.std.specs.List.{before_first, list_all, list_any, onto_first, position_or_len, slice_split}
 use Rattle.hex.specs.Hex.{is_hex_digit}
 use Rattle.tpm_types.specs.declared.alg.Alg.{Alg}
 use Rattle.tpm_vouched.specs.declared.allowed.AllowedDigest.{AllowedDigest}
@@ -16,7 +17,7 @@ use Rattle.tpm_output.specs.Text.{bytes_in}
 use Rattle.tpm_check.specs.declared.allow_lines.Front.{Front}
 use Rattle.tpm_check.specs.inner.AllowReading.{IsFront, ends_word}
 use Rattle.tpm_check.proofs.Spelling.{other_byte, other_length, two_bytes}
-use Rattle.tpm_check.specs.AllowLines.{allow_line, allowing, allowing_in, allowing_named, before_comment, begins_comment, is_blank}
+use Rattle.tpm_check.specs.AllowLines.{allow_line, allowing, allowing_in, allowing_named, before_comment, begins_comment, is_blank, is_feed}
 use Rattle.tpm_check.specs.Compare.{bank_named, behind_word, first_word, is_space, register_named}
 
 -- ---- bytes of which none passes a test
@@ -55,6 +56,19 @@ module _ (test : ℕ → Bool) where
   all_before (x ∷ xs) ys none =
       let parts = either (test x) (list_any test xs) none in
       goes_on x (xs ++ ys) parts.0 ∙ ap (λ (l : List ℕ). x ∷ l) (all_before xs ys parts.1)
+
+  none_in_both : (xs ys : List ℕ) → list_any test xs ≡ false → list_any test ys ≡ false → list_any test (xs ++ ys) ≡ false
+  none_in_both [] ys none nor = nor
+  none_in_both (x ∷ xs) ys none nor =
+      let parts = either (test x) (list_any test xs) none in
+      rw (parts.0) (none_in_both xs ys parts.1 nor)
+
+  split_behind : (xs ys part : List ℕ) (parts : List (List ℕ)) → list_any test xs ≡ false → slice_split test ys ≡ part ∷ parts
+      → slice_split test (xs ++ ys) ≡ (xs ++ part) ∷ parts
+  split_behind [] ys part parts none are = are
+  split_behind (x ∷ xs) ys part parts none are =
+      let no = either (test x) (list_any test xs) none in
+      slice_split-cons_no test x (xs ++ ys) no.0 ∙ ap (onto_first x) (split_behind xs ys part parts no.1 are)
 
   -- nor a digit
   none_of_digits : (hit : ℕ) → ((c : ℕ) → test c ≡ true → c ≡ hit) → is_hex_digit hit ≡ false
@@ -229,14 +243,46 @@ module _ (bank : Alg) (register : ℕ) (digits : List ℕ) (a : AllowedDigest) (
       go true all = all
       go false other = absurd (not_wrong (other_byte bank register digits other))
 
--- A line that begins so, and goes on with digits to the end of a word, allows what they spell.
-pub allowed_behind : (front : Front) (line digits rest : List ℕ) (a : AllowedDigest) → IsFront front
-    → take (length front.text.now) line ≡ front.text.now → drop (length front.text.now) line ≡ digits ++ rest → ends_word rest ≡ true
-    → allowing front.bank front.register (bytes_in digits) ≡ Allows a → allow_line line ≡ Allows a
-allowed_behind front line digits rest a tells begins behind ends is =
-    let n = length front.text.now in
-    let whole : line ≡ front.text.now ++ (digits ++ rest) =
-    sym (take-append-drop n line) ∙ ap (λ (l : List ℕ). l ++ drop n line) begins ∙ ap (λ (l : List ℕ). front.text.now ++ l) behind in
-    ap allow_line whole
-    ∙ digits_behind front digits rest tells (some_digits front.bank front.register digits a is) (all_digits front.bank front.register digits a is) ends
-    ∙ is
+-- ---- a line that begins so, and goes on with digits to the end of a word
+
+pub cut_behind : (n k : ℕ) (line behind digits rest : List ℕ) → behind ≡ drop n line → digits ≡ take k behind → rest ≡ drop k behind
+    → drop n line ≡ digits ++ rest
+cut_behind n k line behind digits rest is first last =
+    sym is
+    ∙ sym (take-append-drop k behind)
+    ∙ ap (λ (l : List ℕ). l ++ drop k behind) (sym first)
+    ∙ ap (λ (l : List ℕ). digits ++ l) (sym last)
+
+no_feed_in : (digits : List ℕ) → list_all is_hex_digit digits ≡ true → list_any is_feed digits ≡ false
+no_feed_in = none_of_digits is_feed 10 (λ c is. eqb-true c 10 is) refl
+
+module _ (front : Front) (bytes digits rest : List ℕ) (a : AllowedDigest) (tells : IsFront front)
+    (begins : take (length front.text.now) bytes ≡ front.text.now) (behind : drop (length front.text.now) bytes ≡ digits ++ rest)
+    (is : allowing front.bank front.register (bytes_in digits) ≡ Allows a) where
+  all : list_all is_hex_digit digits ≡ true
+  all = all_digits front.bank front.register digits a is
+
+  whole_line : bytes ≡ (front.text.now ++ digits) ++ rest
+  whole_line =
+      let n = length front.text.now in
+      sym (take-append-drop n bytes) ∙ ap (λ (l : List ℕ). l ++ drop n bytes) begins ∙ ap (λ (l : List ℕ). front.text.now ++ l) behind
+      ∙ sym (append_assoc front.text.now digits rest)
+
+  none_in_it : list_any is_feed (front.text.now ++ digits) ≡ false
+  none_in_it = none_in_both is_feed front.text.now digits tells.2 (no_feed_in digits all)
+
+  first_line : before_first is_feed bytes ≡ (front.text.now ++ digits) ++ before_first is_feed rest
+  first_line = ap (before_first is_feed) whole_line ∙ all_before is_feed (front.text.now ++ digits) rest none_in_it
+
+  pub line_behind : ends_word (before_first is_feed rest) ≡ true → allow_line (before_first is_feed bytes) ≡ Allows a
+  line_behind ends =
+      ap allow_line (first_line ∙ append_assoc front.text.now digits (before_first is_feed rest))
+      ∙ digits_behind front digits (before_first is_feed rest) tells (some_digits front.bank front.register digits a is) all ends
+      ∙ is
+
+  pub lines_behind : (lines : List (List ℕ)) → slice_split is_feed rest ≡ before_first is_feed rest ∷ lines
+      → slice_split is_feed bytes ≡ before_first is_feed bytes ∷ lines
+  lines_behind lines are =
+      ap (slice_split is_feed) whole_line
+      ∙ split_behind is_feed (front.text.now ++ digits) rest (before_first is_feed rest) lines none_in_it are
+      ∙ ap (λ (l : List ℕ). l ∷ lines) (sym first_line)

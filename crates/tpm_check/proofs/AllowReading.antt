@@ -1,5 +1,5 @@
 -- A list of allowed digests, line by line.
-use Rattle.std.proofs.Common.{◌≡◌, ◌<◌, ◌≤◌, ◌+◌, ◌-◌, ℕ, List, [], ◌∷◌, ◌++◌, Some, None, Ok, Err, length, take, drop, refl, ap, subst}
+use Rattle.std.proofs.Common.{◌≡◌, ◌<◌, ◌≤◌, ◌+◌, ◌-◌, ℕ, List, [], ◌∷◌, ◌++◌, Some, None, Ok, Err, length, take, drop, refl, ap, subst, sym, ◌∙◌}
 use Rattle.std.proofs.Common.{append_assoc, arith, Bool, true, false}
 use Rattle.std.proofs.lemmas.List.{append-nil, take_all}
 use Rattle.std.proofs.lemmas.List.Splits.{slice_split_first, slice_split_none}
@@ -7,7 +7,7 @@ use Rattle.std.proofs.lemmas.Grind.{common_steps}
 use Rattle.std.proofs.lemmas.List.Sums.{fails_before_first, position_or_len_is}
 use Rattle.memchr.specs.Find.{IsFirstByte}
 use Rattle.std.specs.Prelude.{position, slice_index, Option}
-use Rattle.std.specs.List.{position_or_len, slice_split}
+use Rattle.std.specs.List.{before_first, position_or_len, slice_split}
 use Rattle.tpm_vouched.specs.declared.allowed.AllowedDigest.{AllowedDigest}
 use Rattle.tpm_check.specs.declared.allow_lines.AllowLine.TheVariants.{Allows}
 use Rattle.tpm_check.specs.AllowLines.{AllowRead, is_feed, with_allowed}
@@ -46,19 +46,24 @@ first_byte test bytes (Some k) found =
 
 module _ (bytes : List ℕ) where
   -- It ends at the first line feed.
-  pub cut_at : (at : ℕ) → position is_feed bytes ≡ Some at
-      → slice_split is_feed bytes ≡ take at bytes ∷ slice_split is_feed (take (length bytes - (at + 1)) (drop (at + 1) bytes))
+  pub cut_at : (at : ℕ) → position is_feed bytes ≡ Some at → (take at bytes ≡ before_first is_feed bytes)
+      × (slice_split is_feed bytes
+      ≡ before_first is_feed bytes ∷ slice_split is_feed (take (length bytes - (at + 1)) (drop (at + 1) bytes)))
   cut_at at found =
       let is : position_or_len is_feed bytes ≡ at = grind (arith, common_steps) in
       let inside : at < length bytes = grind (arith, common_steps) in
       let behind : take (length bytes - (at + 1)) (drop (at + 1) bytes) ≡ drop (at + 1) bytes =
-      take_all (length bytes - (at + 1)) (drop (at + 1) bytes) (grind (arith, common_steps)) in
-      rw behind
-      (subst (λ (n : ℕ). slice_split is_feed bytes ≡ take n bytes ∷ slice_split is_feed (drop (n + 1) bytes)) is
-      (slice_split_first is_feed bytes 0 (omega arith)))
+      take_all (length bytes - (at + 1)) (drop (at + 1) bytes) (grind (arith, common_steps)) in (
+        ap (λ (n : ℕ). take n bytes) (sym is),
+        rw behind
+            (subst (λ (n : ℕ). slice_split is_feed bytes ≡ before_first is_feed bytes ∷ slice_split is_feed (drop (n + 1) bytes)) is
+            (slice_split_first is_feed bytes 0 (omega arith))),
+      )
 
   -- Without one it is the last.
-  pub cut_none : position is_feed bytes ≡ None → slice_split is_feed bytes ≡ bytes ∷ []
+  pub cut_none : position is_feed bytes ≡ None → (bytes ≡ before_first is_feed bytes)
+      × (slice_split is_feed bytes ≡ before_first is_feed bytes ∷ [])
   cut_none none =
       let outside : length bytes ≤ position_or_len is_feed bytes = grind (arith, common_steps) in
-      slice_split_none is_feed bytes (λ k d less. fails_before_first is_feed bytes k d (omega arith))
+      let all = sym (take_all (position_or_len is_feed bytes) bytes outside) in
+      (all, slice_split_none is_feed bytes (λ k d less. fails_before_first is_feed bytes k d (omega arith)) ∙ ap (λ (l : List ℕ). l ∷ []) all)

@@ -68,7 +68,8 @@ struct Front<'a> {
 
 // What stands before the digits of a line, where there are any.
 fn front_of(text: &[u8]) -> Option<Front<'_>>
-    requires { list_any begins_comment text.now ≡ false }
+    requires none { list_any begins_comment text.now ≡ false }
+    requires line { list_any is_feed text.now ≡ false }
     ensures { IsFrontOf text.now result }
 {
     let (bank, behind) = cut(text);
@@ -91,30 +92,6 @@ fn ends_word(behind: &[u8]) -> bool
     ensures { result ≡ ends_word behind.now }
 {
     matches!(behind, [] | [b' ' | b'#', ..])
-}
-
-// The digest of a line that begins as the one before, as most do. So neither a space nor a comment is looked for.
-fn read_behind<'a>(line: &'a [u8], front: &Front<'_>) -> Option<AllowedLine<'a>>
-    requires { IsFront front.now }
-    ensures { IfSome result (λ allowed. allow_line line.now ≡ Allows allowed) }
-{
-    let behind = line.strip_prefix(front.text)?;
-    let (digits, rest) = behind.split_at_checked(2 * front.bank.digest_len())?;
-    if !ends_word(rest) {
-        return None;
-    }
-    AllowedLine::new(front.bank, front.register, digits)
-}
-
-// That beside the line before, where there is one.
-fn read_beside<'a>(line: &'a [u8], last: &Option<Front<'_>>) -> Option<AllowedLine<'a>>
-    requires { IfSome last.now IsFront }
-    ensures { IfSome result (λ allowed. allow_line line.now ≡ Allows allowed) }
-{
-    match last {
-        Some(front) => read_behind(line, front),
-        None => None,
-    }
 }
 
 fn is_blank(text: &[u8]) -> bool
@@ -140,6 +117,7 @@ fn read_words<'a>(text: &'a [u8], front: &Option<Front<'a>>) -> AllowLine<'a>
 // What is said before a comment, and what stands before its digits.
 fn read_text<'a>(text: &'a [u8], last: &mut Option<Front<'a>>) -> AllowLine<'a>
     requires none { list_any begins_comment text.now ≡ false }
+    requires line { list_any is_feed text.now ≡ false }
     requires last { IfSome last.old IsFront }
     ensures said { result ≡ if is_blank text.now then Nothing else allowing_in text.now }
     ensures last { IfSome last.new IsFront }
@@ -153,29 +131,61 @@ fn read_text<'a>(text: &'a [u8], last: &mut Option<Front<'a>>) -> AllowLine<'a>
     said
 }
 
-// What a line says, and what stands before its digits.
-fn read_line<'a>(line: &'a [u8], last: &mut Option<Front<'a>>) -> AllowLine<'a>
-    requires { IfSome last.old IsFront }
-    ensures said { result ≡ allow_line line.now }
-    ensures last { IfSome last.new IsFront }
-{
-    match read_beside(line, last) {
-        Some(allowed) => AllowLine::Allows(allowed),
-        None => read_text(before(b'#', line), last),
-    }
-}
-
 // The first line, and what stands behind its line feed, where it has one.
 #[tactic(auto, using(crate::proofs::AllowReading::cut_at, crate::proofs::AllowReading::cut_none))]
 fn cut_line(bytes: &[u8]) -> (&[u8], Option<&[u8]>)
+    ensures line { result.0.now ≡ before_first is_feed bytes.now }
     ensures lines { slice_split is_feed bytes.now
-        ≡ result.0.now ∷ lines_left (option_map (λ b. b.now) result.1) }
+        ≡ before_first is_feed bytes.now ∷ lines_left (option_map (λ b. b.now) result.1) }
     ensures shorter { IfSome result.1 (λ behind. length behind.now < length bytes.now) }
 {
     match first(b'\n', bytes) {
         Some(at) => (&bytes[..at], Some(&bytes[at + 1..])),
         None => (bytes, None),
     }
+}
+
+// The digest of the first line, and what stands behind its line feed, where that line begins as the one before, as most
+// do. So neither a space nor a comment nor its end is looked for before its digits.
+fn take_behind<'a>(
+    bytes: &'a [u8],
+    front: &Front<'_>,
+) -> Option<(AllowedLine<'a>, Option<&'a [u8]>)>
+    requires { IsFront front.now }
+    ensures line { IfSome result (λ taken.
+        allow_line (before_first is_feed bytes.now) ≡ Allows taken.0) }
+    ensures lines { IfSome result (λ taken. slice_split is_feed bytes.now
+        ≡ before_first is_feed bytes.now ∷ lines_left (option_map (λ b. b.now) taken.1)) }
+    ensures shorter { IfSome result (λ taken.
+        IfSome taken.1 (λ behind. length behind.now < length bytes.now)) }
+{
+    let from_digits = bytes.strip_prefix(front.text)?;
+    let (digits, rest) = from_digits.split_at_checked(2 * front.bank.digest_len())?;
+    let (words, behind) = cut_line(rest);
+    if !ends_word(words) {
+        return None;
+    }
+    let allowed = AllowedLine::new(front.bank, front.register, digits)?;
+    Some((allowed, behind))
+}
+
+// What the first line says, and what stands behind its line feed, where it has one.
+fn take_line<'a>(bytes: &'a [u8], last: &mut Option<Front<'a>>) -> (AllowLine<'a>, Option<&'a [u8]>)
+    requires { IfSome last.old IsFront }
+    ensures said { result.0 ≡ allow_line (before_first is_feed bytes.now) }
+    ensures lines { slice_split is_feed bytes.now
+        ≡ before_first is_feed bytes.now ∷ lines_left (option_map (λ b. b.now) result.1) }
+    ensures shorter { IfSome result.1 (λ behind. length behind.now < length bytes.now) }
+    ensures last { IfSome last.new IsFront }
+{
+    if let Some(front) = last {
+        if let Some((allowed, behind)) = take_behind(bytes, front) {
+            return (AllowLine::Allows(allowed), behind);
+        }
+    }
+    let (line, behind) = cut_line(bytes);
+    let text = before(b'#', line);
+    (read_text(text, last), behind)
 }
 
 /// The digests of a list, fewer than 2^32, or the number of the first line that is wrong.
@@ -197,9 +207,9 @@ pub(crate) fn read_allowed(
     let mut left = Some(bytes);
     let mut last = None;
     while let Some(lines) = left {
-        let (line, behind) = cut_line(lines);
+        let (said, behind) = take_line(lines, &mut last);
         number += 1;
-        match read_line(line, &mut last) {
+        match said {
             AllowLine::Allows(line) => found.push(line)?,
             AllowLine::Nothing => {}
             AllowLine::Wrong => return Ok(Err(number)),

@@ -7,7 +7,7 @@ ghost use Rattle.std.specs.Prelude.{◌≡◌, ◌≤◌, ◌<◌, ◌*◌, ◌|
 ghost use Rattle.std.specs.Char.{to_ascii_lowercase};
 ghost use Rattle.std.specs.Cmp.Lexicographic.{pointwise};
 ghost use Rattle.std.specs.List.{list_all};
-ghost use Rattle.hex.specs.Hex.{is_hex_digit};
+ghost use Rattle.hex.specs.Hex.{encode_lower, is_hex_digit};
 ghost use Rattle.tpm_types.specs.Limits.{digest_bytes};
 ghost use Rattle.tpm_vouched.specs.Allowed.{is_for};
 ghost use Rattle.tpm_output.specs.Text.{bytes_in};
@@ -63,10 +63,24 @@ fn is_lower_case(digits: &[u8], text: &[u8]) -> bool
     *lower == *text
 }
 
-// How many digits a digest of SHA-256 has.
-const SHA256_DIGITS: usize = 64;
+// How many bytes and digits a digest of SHA-256 has. Most have so many, which are written and compared without a loop.
+const SHA256_BYTES: usize = 32;
 
-// Whether these are the same digits. Of SHA-256, as most are, so many are compared without a loop.
+const SHA256_DIGITS: usize = 2 * SHA256_BYTES;
+
+// Writes the digits of these bytes, in lower case.
+#[inline(always)]
+fn write_digits(bytes: &[u8], digits: &mut [u8])
+    requires { length digits.old ≡ 2 * length bytes.now }
+    ensures { digits.new ≡ encode_lower bytes.now }
+{
+    match bytes.as_array::<SHA256_BYTES>() {
+        Some(bytes) => hex::encode_to_slice(*bytes, digits).unwrap(),
+        None => hex::encode_to_slice(bytes, digits).unwrap(),
+    }
+}
+
+// Whether these are the same digits.
 #[inline(always)]
 fn are_same(digits: &[u8], others: &[u8]) -> bool
     ensures { result ≡ pointwise nat_eq digits.now others.now }
@@ -145,7 +159,7 @@ impl<'a> Sought<'a> {
     {
         let first = &digest[..digest.len().min(DIGEST_BYTES)];
         let digits = &mut room[..2 * first.len()];
-        hex::encode_to_slice(first, digits).unwrap();
+        write_digits(first, digits);
         Sought {
             bank,
             register,

@@ -24,12 +24,13 @@ abbrev pub lines_left : Option (List ℕ) → List (List ℕ)
 lines_left None = []
 lines_left (Some bytes) = slice_split is_feed bytes
 
--- What stands before the digits of a line tells what it says of them, and has no comment.
+-- What stands before the digits of a line tells what it says of them, and has neither a comment nor a line feed.
 abbrev pub IsFront : Front → Type 0
 IsFront front =
     ((behind : List ℕ) → allowing_in (front.text.now ++ behind)
     ≡ allowing front.bank front.register (bytes_in (first_word behind)))
     × (list_any begins_comment front.text.now ≡ false)
+    × (list_any is_feed front.text.now ≡ false)
 
 -- what stands before the digits of these words of a line, which are wrong where there is none
 abbrev pub IsFrontOf : (text : List ℕ) → Option Front → Type 0

@@ -115,13 +115,13 @@ fn a_read_for_secure_boot_that_fails_is_answered(rt: HostRuntime) -> Result<(), 
     Ok(())
 }
 
-// 1,024 pieces of 16,384 bytes, and the byte that is one too many.
+// 2,048 pieces of 8,192 bytes, and the byte that is one too many.
 #[test]
 fn of_an_endless_log_one_byte_too_many_is_read(rt: HostRuntime) {
     let mut log = Pieces::endless(0);
     let text = "log NotCryptoAgile at 4\n";
     is_answered(&rt, listed(rt.alloc(), &mut log), Ok(Status::Refused), text);
-    assert_eq!(rt; log.reads, 1025);
+    assert_eq!(rt; log.reads, 2049);
 }
 
 // The line of the last record of `TEXT` with its line feed: all but the 58 bytes before it.

@@ -1,7 +1,7 @@
 use Rattle.std.proofs.Common.{◌≡◌, ◌∙◌, ap, false, length, sym, true}
 use Rattle.std.proofs.lemmas.Bool.{eqb-true, eq-eqb}
 use Rattle.tpm_check.specs.Compare.{bank_named, behind_word, first_word, register_named}
-use Rattle.tpm_check.specs.AllowLines.{begins_comment}
+use Rattle.tpm_check.specs.AllowLines.{begins_comment, is_feed}
 use Rattle.tpm_check.proofs.AllowFronts.{front_size, front_tells, none_in_first, without_digits}
 use Rattle.tpm_check.proofs.allow_lines.front_of.Goals as goal
 
@@ -22,4 +22,11 @@ returns-in-Some-Some c =
     ap register_named (ap first_word (sym c.cut.ensures.behind) ∙ sym c.cut-2.ensures.first) ∙ sym c.register_named.ensures ∙ c.in-Some-Some.is-1 in
     let some = λ (none : length (behind_word (behind_word text)) ≡ 0).
     let z : false ≡ true = sym c.if-is_empty.false ∙ c.is_empty.ensures ∙ eq-eqb _ 0 (ap length behind ∙ none) in no z in
-    rw behind ((λ after. front_tells text some _ _ after one two, none_in_first begins_comment _ text c.requires), front_size text some)
+    rw behind (
+      (
+        λ after. front_tells text some _ _ after one two,
+        none_in_first begins_comment _ text c.requires.none,
+        none_in_first is_feed _ text c.requires.line,
+      ),
+      front_size text some,
+    )
