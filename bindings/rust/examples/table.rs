@@ -267,7 +267,7 @@ fn attest(out: &mut impl Write, words: &[&str]) -> std::io::Result<()> {
     let nonce = if words[3] == "any" { Nonce::Any } else { Nonce::Is(&nonce) };
     let required = if words[4] == "any" { Required::Any } else { Required::Registers(&required) };
     let mut expected = Expected::new(nonce, required, bank(words[5]));
-    let list = if words[6].is_empty() { None } else { Some(std::fs::read_to_string(words[6])?) };
+    let list = if words[6].is_empty() { None } else { Some(std::fs::read(words[6])?) };
     let allowed: Result<Option<Vec<_>>, usize> = list.map(|it| allowed_digests(&it).collect()).transpose();
     let allowed = match allowed {
         Ok(allowed) => allowed,

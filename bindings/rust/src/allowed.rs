@@ -22,21 +22,25 @@ const _: () = assert!(
         && offset_of!(AllowedDigest, digest) == offset_of!(c::tpm_allowed, digest)
 );
 
-/// The digests of a list, as the lines of `tpmtool check LOG --extends`: of each line its bank, its register and the
-/// digest, as `sha256 4 DIGEST`, with one space between them. Behind another space stand any words, and behind `#` a
-/// comment. A line with nothing but spaces before it says nothing, and a line feed alone ends a line. It is the number
-/// of a line that is none.
-pub fn allowed_digests(text: &str) -> impl Iterator<Item = Result<AllowedDigest, usize>> + '_ {
-    let lines = text.split('\n').map(|line| line.split('#').next().unwrap_or("")).zip(1..);
-    lines.filter(|(said, _)| said.bytes().any(|it| it != b' ')).map(|(said, number)| entry(said).ok_or(number))
+/// The digests of a list, a text or its bytes, as the lines of `tpmtool check LOG --extends`: of each line its bank,
+/// its register and the digest, as `sha256 4 DIGEST`, with one space between them. Behind another space stand any
+/// words, and behind `#` a comment. A line with nothing but spaces before it says nothing, and a line feed alone ends a
+/// line. It is the number of a line that is none.
+pub fn allowed_digests<T: AsRef<[u8]> + ?Sized>(list: &T) -> impl Iterator<Item = Result<AllowedDigest, usize>> + '_ {
+    let lines = list.as_ref().split(|it| *it == b'\n').map(before_comment).zip(1..);
+    lines.filter(|(said, _)| said.iter().any(|it| *it != b' ')).map(|(said, number)| entry(said).ok_or(number))
+}
+
+fn before_comment(line: &[u8]) -> &[u8] {
+    line.split(|it| *it == b'#').next().unwrap_or_default()
 }
 
 /// What stands before a comment.
-fn entry(said: &str) -> Option<AllowedDigest> {
-    let mut words = said.split(' ');
-    let bank = words.next().and_then(|name| Bank::ALL.into_iter().find(|it| it.name() == name))?;
+fn entry(said: &[u8]) -> Option<AllowedDigest> {
+    let mut words = said.split(|it| *it == b' ');
+    let bank = words.next().and_then(|name| Bank::ALL.into_iter().find(|it| it.name().as_bytes() == name))?;
     let register = register(words.next()?)?;
-    let (digits, mut digest) = (words.next()?.as_bytes(), [0; 48]);
+    let (digits, mut digest) = (words.next()?, [0; 48]);
     if digits.len() != 2 * bank.digest_bytes() {
         return None;
     }
@@ -48,8 +52,8 @@ fn entry(said: &str) -> Option<AllowedDigest> {
 }
 
 /// The register of a number that has no sign and no zero before it.
-fn register(word: &str) -> Option<u32> {
-    let number = word.parse().ok().filter(|it| *it < 24)?;
+fn register(word: &[u8]) -> Option<u32> {
+    let number = core::str::from_utf8(word).ok()?.parse().ok().filter(|it| *it < 24)?;
     (word.len() == if number < 10 { 1 } else { 2 }).then_some(number)
 }
 

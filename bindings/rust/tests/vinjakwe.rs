@@ -253,6 +253,10 @@ fn how_a_list_is_spelled() {
     ] {
         assert_eq!(allowed_digests(&text).collect::<Vec<_>>(), [Ok(wanted)]);
     }
+    // What stands in a comment needn't be text.
+    for (words, wanted) in [(&b" # \xff\n"[..], Ok(wanted)), (b" \xff\n", Ok(wanted)), (b"\xff\n", Err(1))] {
+        assert_eq!(allowed_digests(&[line.as_bytes(), words].concat()).collect::<Vec<_>>(), [wanted]);
+    }
     for between in ['\x0c', '\x0b', '\r', '\x1c', '\x1d', '\x1e', '\u{85}', '\u{2028}', '\u{2029}', '\t', ' '] {
         let text = format!("# words{between}{line}\n{line}");
         assert_eq!(allowed_digests(&text).collect::<Vec<_>>(), [Ok(wanted)]);
