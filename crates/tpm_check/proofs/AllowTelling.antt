@@ -8,7 +8,7 @@ use Rattle.tpm_types.specs.declared.alg.Alg.{Alg}
 use Rattle.tpm_vouched.specs.declared.allowed.AllowedDigest.{AllowedDigest}
 use Rattle.tpm_output.specs.declared.form.Form.{Form}
 use Rattle.tpm_check.specs.AllowTold.{bank_told, register_told}
-use Rattle.tpm_check.specs.Extensions.{Extension}
+use Rattle.tpm_lists.specs.Extensions.{Extension}
 use Rattle.tpm_check.specs.ExtendsTold.{bank_extends, once_from}
 
 pub bank_more : (form : Form) (list : List AllowedDigest) (found : List Extension) (bank : Alg) (n : ℕ)

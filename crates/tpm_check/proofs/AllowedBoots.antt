@@ -16,7 +16,7 @@ use Rattle.tpm_output.specs.declared.status.Status.TheVariants.{Done, Refused}
 use Rattle.tpm_output.specs.declared.status.Status.{Status}
 use Rattle.tpm_check.specs.inner.AllowedBoot.{AreAllOf}
 use Rattle.tpm_check.specs.AllowedBoot.{ChecksBeside, QuoteFiles, SaysBehind, SaysBeside, SaysOfList, SaysOfRead, VouchedLog, on_boot, on_found, refused}
-use Rattle.tpm_check.specs.AllowLines.{allowed_in}
+use Rattle.tpm_lists.specs.AllowLines.{allowed_in}
 use Rattle.tpm_output.specs.InputLines.{most_bytes}
 use Rattle.tpm_output.specs.Status.{both}
 use Rattle.tpm_check.specs.Asked.{Asked}
@@ -26,7 +26,7 @@ use Rattle.tpm_check.specs.inner.CheckAttest.{Adds}
 use Rattle.tpm_check.specs.Compare.{Verdict, beside, fault_told, printed}
 use Rattle.tpm_check.specs.AllowTold.{first_lacking, on_lacking, on_unknown}
 use Rattle.tpm_check.specs.CheckJson.{ok_text}
-use Rattle.tpm_check.specs.Extensions.{Extension, extensions_in}
+use Rattle.tpm_lists.specs.Extensions.{Extension, extensions_in}
 use Rattle.tpm_check.specs.SecureBootLines.{TellsSecureBoot, ended}
 
 -- That is what is printed of a log.

@@ -37,20 +37,21 @@ use Rattle.tpm_output.specs.declared.status.Status.{Status}
 use Rattle.tpm_output.specs.InputLines.{most_bytes}
 use Rattle.tpm_output.specs.Status.{both}
 use Rattle.tpm_output.specs.Text.{bytes_in}
-use Rattle.tpm_check.specs.declared.allow_lines.AllowLine.TheVariants.{Allows, Nothing, Wrong}
-use Rattle.tpm_check.specs.declared.allow_lines.AllowLine.{AllowLine}
-use Rattle.tpm_check.specs.AllowLines.{AllowRead, allow_line, allowed_from, allowed_in, allowing, allowing_named, before_comment}
-use Rattle.tpm_check.specs.AllowLines.{is_blank, is_feed, with_allowed}
+use Rattle.tpm_lists.specs.declared.allow_lines.AllowLine.TheVariants.{Allows, Nothing, Wrong}
+use Rattle.tpm_lists.specs.declared.allow_lines.AllowLine.{AllowLine}
+use Rattle.tpm_lists.specs.AllowLines.{AllowRead, allow_line, allowed_from, allowed_in, allowing, allowing_named, before_comment}
+use Rattle.tpm_lists.specs.AllowLines.{is_blank, is_feed, with_allowed}
 use Rattle.tpm_check.specs.AllowTold.{first_lacking, first_lacking_of, is_lacking, on_lacking, on_unknown, status_of_unknown}
 use Rattle.tpm_check.specs.AllowedBoot.{OnLong, SaysBehind, SaysBeside, SaysOfList, SaysOfRead, VouchedLog, on_boot, on_digests}
 use Rattle.tpm_check.specs.AllowedLogs.{AllowedByQuote, AllowedThere, ListedLog}
 use Rattle.tpm_check.specs.Check.{hash_of}
 use Rattle.tpm_check.specs.CheckAttest.{ChecksAttest, OnDone, Says, Selects, behind, covering, given, is_done, judged, selected}
-use Rattle.tpm_check.specs.Compare.{Beside, Verdict, beside, printed, register_named, status_if}
-use Rattle.tpm_check.specs.Extensions.{Extension, extension, extensions_from, extensions_in}
+use Rattle.tpm_check.specs.Compare.{Beside, Verdict, beside, printed, status_if}
+use Rattle.tpm_lists.specs.ListLines.{register_named}
+use Rattle.tpm_lists.specs.Extensions.{Extension, extension, extensions_from, extensions_in}
 use Rattle.tpm_check.specs.QuotedBoot.{ChecksBoot}
 use Rattle.tpm_check.specs.SecureBootLines.{ended}
-use Rattle.tpm_check.proofs.Comparisons.{named-below}
+use Rattle.tpm_lists.proofs.Registers.{named-below}
 
 -- ---- statuses
 

@@ -1,24 +1,18 @@
 -- Lists of registers whose lines are compared one after the other.
 use Rattle.std.proofs.Common.{◌≡◌, ℕ, Bool, true, ◌+◌, ◌<◌, ◌≤◌, false, List, [], ◌∷◌, ◌++◌, length, take, Option, Some, None}
-use Rattle.std.proofs.Common.{◌||◌, Bor, option_map, refl, sym, ap, subst, ◌∙◌, inl, inr, arith, length-append, length-take-le, position}
-use Rattle.std.proofs.lemmas.List.Quantifiers.{position-Some}
+use Rattle.std.proofs.Common.{◌||◌, Bor, option_map, refl, sym, ap, subst, ◌∙◌, inl, inr, arith, length-append, length-take-le}
 use Rattle.std.proofs.lemmas.List.{take_all}
 use Rattle.std.proofs.lemmas.Bool.{cases_lt, lt-ltb}
 use Rattle.std.specs.Prelude.{filter, IfSome, ◌≢◌}
-use Rattle.std.specs.Str.{bytes_eq}
-use Rattle.std.specs.Fmt.{digits}
 use Rattle.std.specs.List.{AllByRecursion, list_any}
 use Rattle.std.specs.Io.KnownBytes.{Appends}
 use Rattle.tpm_check.specs.declared.beside.Beside.{Beside as InCode}
 use Rattle.tpm_check.specs.declared.compared.Comparing.{Comparing}
-use Rattle.tpm_check.specs.declared.stated.TheConstants.{REGISTERS}
-use Rattle.tpm_check.specs.declared.list_lines.Heading.TheVariants.{NoBank}
-use Rattle.tpm_check.specs.declared.list_lines.Heading.{Heading}
-use Rattle.tpm_check.specs.Compare.{Beside, Comparison, ListLine, States, Heads, Passes, Wrong, line_under}
-use Rattle.tpm_check.specs.Compare.{heading_behind, lines_under, is_statement, is_value, states_any}
-use Rattle.tpm_check.specs.Compare.{register_names, register_named, comparison_of}
-use Rattle.tpm_check.specs.Compare.{comparison_from, comparison, status_if, most_line, IsStated}
-use Rattle.tpm_check.specs.Compare.{ReadsList, ReadsTooMuchList}
+use Rattle.tpm_lists.specs.declared.list_lines.Heading.TheVariants.{NoBank}
+use Rattle.tpm_lists.specs.declared.list_lines.Heading.{Heading}
+use Rattle.tpm_lists.specs.ListLines.{ListLine, States, Heads, Passes, Wrong, heading_behind, line_under, lines_under, most_line}
+use Rattle.tpm_check.specs.Compare.{Beside, Comparison, comparison, comparison_from, comparison_of, is_statement, is_value, states_any, status_if}
+use Rattle.tpm_check.specs.Compare.{IsStated, ReadsList, ReadsTooMuchList}
 use Rattle.tpm_check.specs.inner.Comparing.{Compares, line_behind, line_text, list_line, stated_behind, stated_text}
 use Rattle.tpm_check.specs.inner.Told.{told}
 use Rattle.tpm_output.specs.declared.status.Status.TheVariants.{Done, Refused}
@@ -28,19 +22,6 @@ use Rattle.tpm_output.specs.LineSinks.{GoesOn, IsWhole, OnTrue, ReadsLines, Read
 use Rattle.tpm_output.specs.LineSinks.{StopsAt, TakesAll, TakesFrom, TakesBuffered, buffered, some_if}
 use Rattle.tpm_output.specs.Status.{both}
 use Rattle.tpm_output.proofs.LineReading.{stops_whatever}
-use Rattle.tpm_output.proofs.Tables.{position-map}
-
--- ---- registers
-
--- the table has the numbers in decimal
-pub named-is : (word : List ℕ) → position (λ name. bytes_eq name.now word) REGISTERS ≡ register_named word
-unfolding digits
-named-is word = position-map REGISTERS (λ name. name.now) (λ name. bytes_eq name word)
-
--- what is at a place in the table is the number of a register
-pub named-below : (o : Option ℕ) (word : List ℕ) → o ≡ register_named word → IfSome o (λ number. number < 24)
-named-below None word e = tt
-named-below (Some number) word e = (position-Some (λ name. bytes_eq name word) register_names number [] (sym e)).0
 
 -- ---- statuses
 

@@ -13,7 +13,8 @@ use Rattle.std.specs.Str.{bytes_eq}
 use Rattle.std.specs.declared.cmp.Ordering.TheVariants.{Less, Equal, Greater}
 use Rattle.std.specs.declared.cmp.Ordering.{Ordering}
 use Rattle.tpm_types.specs.declared.alg.Alg.{Alg}
-use Rattle.tpm_check.specs.Extensions.{Extension}
+use Rattle.tpm_lists.specs.Extensions.{Extension}
+use Rattle.tpm_lists.proofs.AllowFinding.{any_behind, swap}
 use Rattle.tpm_check.specs.ExtendsTold.{has_digest}
 
 abbrev now : Bor (List ℕ) → List ℕ
@@ -31,11 +32,6 @@ is_there q (k ∷ ks) =
 again : (b rest : Bool) → (b || rest) ≡ (b || (b || rest))
 again true rest = refl
 again false rest = refl
-
-swap : (a b rest : Bool) → (a || (b || rest)) ≡ (b || (a || rest))
-swap true true rest = refl
-swap true false rest = refl
-swap false b rest = refl
 
 pub added : (q : List ℕ) (k : Bor (List ℕ)) (ks : List (Bor (List ℕ)))
     → list_any (bytes_eq q) (map now (insert_key cmp ks k)) ≡ (bytes_eq q k.now || list_any (bytes_eq q) (map now ks))
@@ -55,10 +51,6 @@ added q k (x ∷ ks) = go (cmp k x) (is_eq-slice_cmp k.now x.now) (added q k ks)
         ap (λ (b : Bool). bytes_eq q x.now || b) more ∙ swap (bytes_eq q x.now) (bytes_eq q k.now) (list_any (bytes_eq q) (map now ks))
 
 -- ---- digests that were told
-
-pub any_behind : {X : Type 0} (p : X → Bool) (xs : List X) (x : X) → list_any p (xs ++ x ∷ []) ≡ (p x || list_any p xs)
-any_behind p [] x = refl
-any_behind p (y ∷ ys) x = ap (λ (b : Bool). p y || b) (any_behind p ys x) ∙ swap (p y) (p x) (list_any p ys)
 
 -- One more is known.
 pub known_more : (bank : Alg) (register : ℕ) (before : List Extension) (x : Extension) (digest : List ℕ) (told behind : List (List ℕ))

@@ -21,7 +21,7 @@ use Rattle.tpm_event_marks.specs.Names.{type_value}
 use Rattle.tpm_check.specs.CheckAttest.{marks_of_lacks}
 use Rattle.tpm_check.specs.CheckJson.{rendered}
 use Rattle.tpm_check.specs.Compare.{Verdict, fault_told}
-use Rattle.tpm_check.specs.Extensions.{Extension, is_of}
+use Rattle.tpm_lists.specs.Extensions.{Extension, is_of}
 
 -- ---- a digest that isn't on the list
 

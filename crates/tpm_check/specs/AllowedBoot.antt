@@ -13,11 +13,11 @@ use Rattle.tpm_output.specs.declared.form.Form.{Form}
 use Rattle.tpm_output.specs.declared.status.Status.TheVariants.{Done, Refused}
 use Rattle.tpm_output.specs.declared.status.Status.{Status}
 use Rattle.tpm_output.specs.InputLines.{most_bytes}
-use Rattle.tpm_check.specs.AllowLines.{AllowRead, allowed_in}
+use Rattle.tpm_lists.specs.AllowLines.{AllowRead, allowed_in}
 use Rattle.tpm_check.specs.AllowTold.{first_lacking, on_list, on_unknown}
 use Rattle.tpm_check.specs.CheckAttest.{ChecksAttest, OnDone, Says, Selects, behind}
 use Rattle.tpm_check.specs.Compare.{Verdict, beside, fault_told, not_a_register_text, printed}
-use Rattle.tpm_check.specs.Extensions.{Extension, extensions_in}
+use Rattle.tpm_lists.specs.Extensions.{Extension, extensions_in}
 use Rattle.tpm_check.specs.SecureBootLines.{TellsFault, ended, on_log, quoted_banks}
 
 -- ---- a list

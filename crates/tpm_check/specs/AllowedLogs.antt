@@ -10,7 +10,7 @@ use Rattle.tpm_vouched.specs.declared.allowed.AllowedDigest.{AllowedDigest}
 use Rattle.tpm_vouched.specs.Allowed.{AreAllowed, names}
 use Rattle.tpm_vouched.specs.Vouched.{AreApart, QuoteApart, QuotedLog}
 use Rattle.tpm_options.specs.declared.CheckOptions.{CheckOptions}
-use Rattle.tpm_check.specs.AllowLines.{allowed_in}
+use Rattle.tpm_lists.specs.AllowLines.{allowed_in}
 use Rattle.tpm_check.specs.Check.{hash_of}
 use Rattle.tpm_check.specs.CheckAttest.{given}
 

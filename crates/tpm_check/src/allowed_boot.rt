@@ -11,26 +11,21 @@ ghost use Rattle.tpm_output.specs.declared.status.Status.TheVariants.{Refused};
 ghost use Rattle.tpm_output.specs.Faults.{FailsByMemoryOrWrite};
 ghost use Rattle.tpm_output.specs.InputLines.{CountsRead};
 ghost use Rattle.tpm_output.specs.Reads.{ReadsNoMore, ReadsUpTo};
+ghost use Rattle.tpm_lists.specs.Extensions.{extensions_in};
+ghost use Rattle.tpm_lists.specs.LookingUp.{IsLookedUp};
 ghost use Rattle.tpm_check.specs.AllowedBoot.{ChecksBeside, SaysBehind, SaysBeside, SaysOfList};
 ghost use Rattle.tpm_check.specs.AllowedBoot.{SaysOfRead, SaysOfSelected, on_boot, on_found};
 ghost use Rattle.tpm_check.specs.CheckAttest.{Says};
-ghost use Rattle.tpm_check.specs.Extensions.{extensions_in};
 ghost use Rattle.tpm_check.specs.inner.AllowedBoot.{AreAllOf, vouched_log};
 ghost use Rattle.tpm_check.specs.inner.CheckAttest.{Adds};
-ghost use Rattle.tpm_check.specs.inner.LookingUp.{IsLookedUp};
 ghost use Rattle.tpm_check.specs.Compare.{Verdict, not_a_register_text, printed};
 
-use crate::allow_index::AllowIndex;
-use crate::allow_lines::read_allowed;
 use crate::allow_told::AllowTold;
-use crate::allowed_line::AllowedLine;
 use crate::beside::Beside;
 use crate::check_json::{fault_answer, push_ok};
 use crate::checked::tell_fault;
 use crate::compared::MOST_BYTES;
-use crate::extensions::{Extension, unknown_in};
 use crate::judged::answer_to_attest;
-use crate::looked_up::{LookedUp, look_up};
 use crate::quoted_boot::{quoted_banks, selected};
 use crate::register_text::push_not_a_register;
 use crate::replayed::{ReplayedLog, replayed};
@@ -38,6 +33,7 @@ use crate::told_secure_boot::push_log;
 use std::alloc::{AllocError, Global};
 use std::io::Write;
 use tpm_events::listed_events::MOST_READ;
+use tpm_lists::{AllowIndex, AllowedLine, Extension, LookedUp, look_up, read_allowed, unknown_in};
 use tpm_log::Log;
 use tpm_options::CheckOptions;
 use tpm_output::answer::Answer;
@@ -333,7 +329,7 @@ pub(crate) fn print_looked_up<L: Source, W: Write>(
     match digests_of(alloc, allow)? {
         Some(digests) => {
             let mut list = AllowIndex::new(alloc, digests.as_slice())?;
-            let found = look_up(alloc, log, &mut list)?;
+            let found = look_up(alloc, log, MOST_READ, &mut list)?;
             print_found(alloc, options, attest, &list, &found, out)
         }
         None => {

@@ -3,7 +3,7 @@ use Rattle.std.specs.Prelude.{◌≡◌, ℕ, false, nat_lt, List, length, Ok}
 use Rattle.tpm_vouched.specs.declared.allowed.AllowedDigest.{AllowedDigest}
 use Rattle.tpm_output.specs.InputLines.{most_bytes}
 use Rattle.tpm_check.specs.declared.allowed_boot.VouchedLog.{VouchedLog as VouchedLogInCode}
-use Rattle.tpm_check.specs.AllowLines.{allowed_in}
+use Rattle.tpm_lists.specs.AllowLines.{allowed_in}
 use Rattle.tpm_check.specs.AllowedBoot.{VouchedLog}
 
 abbrev pub vouched_log : VouchedLogInCode → VouchedLog

@@ -1,26 +1,11 @@
 -- What comes of a line of a list of registers.
 use Rattle.std.specs.Prelude.{◌≡◌, ℕ, true, List, [], Option, Some, None}
 use Rattle.tpm_check.specs.declared.compared.Comparing.{Comparing}
-use Rattle.tpm_check.specs.declared.list_lines.ListLine.{ListLine as InCode}
-use Rattle.tpm_check.specs.declared.stated.Stated.{Stated as RustStated}
-use Rattle.tpm_check.specs.Compare.{Beside, Stated, ListLine, States, Heads, Passes, Wrong, line_under}
-use Rattle.tpm_check.specs.Compare.{is_value, compared_text, not_a_register_text, most_line, status_if}
+use Rattle.tpm_lists.specs.ListLines.{Stated, ListLine, States, Heads, Passes, Wrong, line_under, most_line}
+use Rattle.tpm_check.specs.Compare.{Beside, is_value, compared_text, not_a_register_text, status_if}
 use Rattle.tpm_check.specs.inner.Told.{told}
-use Rattle.tpm_check.specs.declared.list_lines.ListLine.TheVariants as listed
 use Rattle.tpm_output.specs.Status.{both}
 use Rattle.tpm_output.specs.LineSinks.{Limits, LineStep}
-
--- what was read of a line
-abbrev pub stated_as : RustStated → Stated
-stated_as s = record { bank = s.bank; register = s.register; value = s.value.items }
-
-abbrev pub line_as : InCode → ListLine
-line_as (listed.Stated s) = States (stated_as s)
-line_as (listed.Heading heading) = Heads heading
-line_as listed.Passed = Passes
-line_as listed.Wrong = Wrong
-
--- ---- a line
 
 -- Every byte of a line counts, and one that is too long is wrong.
 abbrev pub list_line : Limits

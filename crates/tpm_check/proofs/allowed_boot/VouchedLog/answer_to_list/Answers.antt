@@ -1,9 +1,9 @@
 use Rattle.std.proofs.Common.{◌≡◌, ◌∙◌, Ok, ap, string_bytes, subst, sym}
 use Rattle.std.proofs.lemmas.Result.{IfOk-weaker}
-use Rattle.tpm_check.specs.AllowLines.{AllowRead, allowed_in}
+use Rattle.tpm_lists.specs.AllowLines.{AllowRead, allowed_in}
 use Rattle.tpm_check.specs.AllowedBoot.{SaysOfRead}
 use Rattle.tpm_check.specs.Compare.{printed}
-use Rattle.tpm_check.specs.inner.AllowReading.{read_as}
+use Rattle.tpm_lists.specs.AllowLines.{read_as}
 use Rattle.tpm_check.specs.inner.AllowedBoot.{vouched_log}
 use Rattle.tpm_check.proofs.AllowedBoots.{on_long, on_short}
 use Rattle.tpm_check.proofs.allowed_boot.VouchedLog.answer_to_list.Goals as goal

@@ -1,7 +1,7 @@
 use Rattle.std.proofs.Common.{refl}
 use Rattle.std.proofs.lemmas.Result.{IfOk-weaker}
 use Rattle.tpm_output.specs.LineSinks.{some_if}
-use Rattle.tpm_check.specs.Compare.{line_under}
+use Rattle.tpm_lists.specs.ListLines.{line_under}
 use Rattle.tpm_check.specs.inner.Comparing.{line_text}
 use Rattle.tpm_check.specs.inner.Told.{told}
 use Rattle.tpm_check.proofs.Comparisons.{anywhere, short, takes_buffered}

@@ -1,7 +1,0 @@
-use Rattle.std.proofs.Common.{take}
-use Rattle.tpm_check.specs.inner.AllowIndex.{ArePlaces}
-use Rattle.tpm_check.proofs.allow_index.places_of.Given as goal
-
--- the digests so far
-abbrev pub invariant-loop-allowed : goal.invariant-loop-allowed
-invariant-loop-allowed l = ArePlaces (take l.allowed-index l.digests) l.places.items

@@ -1,0 +1,7 @@
+pub mod Registers
+pub mod AllowFinding
+mod AllowFronts
+mod AllowReading
+mod Spelling
+mod Extending
+mod LookingUp

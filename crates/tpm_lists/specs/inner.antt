@@ -1,0 +1,4 @@
+-- Definitions that serve proofs alone: no contract that is handed out names them.
+pub mod AllowIndex
+pub mod AllowReading
+pub mod LookingUp
