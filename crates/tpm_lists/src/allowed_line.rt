@@ -89,7 +89,7 @@ fn are_same(digits: &[u8], others: &[u8]) -> bool
         digits.as_array::<SHA256_DIGITS>(),
         others.as_array::<SHA256_DIGITS>(),
     ) {
-        (Some(digits), Some(others)) => digits == others,
+        (Some(digits), Some(others)) => *digits == *others,
         _ => digits == others,
     }
 }

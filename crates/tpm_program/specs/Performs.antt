@@ -50,20 +50,11 @@ most_kept = 1027
 
 -- ---- frames
 
--- a capture that is a stream of frames, or lines, and how it is told
-pub data Form : Type 0 where
-  Stream : (how : Telling) → Form
-  Lines : (how : Telling) → Form
-
-abbrev pub form_of : (binary : Bool) → Telling → Form
-form_of true how = Stream how
-form_of false how = Lines how
-
--- those of the stream, or those in the lines
-abbrev pub TellsFrames : Form → Option (List ℕ) → Status → List ℕ → Type 0
-TellsFrames (Stream how) coming status text =
+-- those of a capture that is a stream of them, or else those in its lines, and how they are told
+abbrev pub TellsFrames : (binary : Bool) → Telling → Option (List ℕ) → Status → List ℕ → Type 0
+TellsFrames true how coming status text =
     (rest : Option (List ℕ)) × OfRead coming rest (λ bytes. TellsStream how bytes status text)
-TellsFrames (Lines how) coming status text =
+TellsFrames false how coming status text =
     (bytes : List ℕ) × (rest : Option (List ℕ)) × ReadsAll coming rest bytes × TellsCapture how bytes status text
 
 -- ---- a script
@@ -135,7 +126,7 @@ Performs offered (Show reply true hex) status text = ShowsFields reply hex.now s
 Performs offered (Show reply false hex) status text = Shows reply hex.now status text
 Performs offered (ShowCapture c) status text =
     OfPlace offered c.file (λ capture.
-    TellsFrames (form_of c.binary (record { fields = c.fields; form = c.form })) capture status text)
+    TellsFrames c.binary (record { fields = c.fields; form = c.form }) capture status text)
 Performs offered (ShowPackets p) status text =
     OfFile offered p.file.now (λ packets. (rest : Option (List ℕ)) × OfReadUpTo most_packets packets rest (λ bytes.
     TellsPackets (record { fields = p.fields; form = p.form }) p.port bytes status text))

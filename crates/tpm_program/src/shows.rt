@@ -6,7 +6,7 @@ ghost use Rattle.tpm_output.specs.declared.fault.ToolFault.TheVariants.{InputToo
 ghost use Rattle.tpm_output.specs.InputLines.{CountsRead};
 ghost use Rattle.tpm_show.specs.Capture.{ReadsTooMuchCapture};
 ghost use Rattle.tpm_args.specs.declared.task.Task.TheVariants.{Run, ShowCapture, ShowNv, ShowPackets};
-ghost use Rattle.tpm_program.specs.Performs.{Performs, TellsFrames, form_of};
+ghost use Rattle.tpm_program.specs.Performs.{Performs, TellsFrames};
 ghost use Rattle.tpm_program.specs.Fails.{Fails};
 
 use crate::fault::Fault;
@@ -32,8 +32,8 @@ fn show_frames<S: Source, W: Write>(
 ) -> Result<Status, ToolFault>
     ensures failures { CountsRead (S.failed input.old) (S.failed input.new) result }
     ensures ok { IfOk result (λ status. (text : List ℕ)
-        × TellsFrames (form_of task.now.binary
-        (record { fields = task.now.fields; form = task.now.form })) (S.coming input.old) status text
+        × TellsFrames task.now.binary (record { fields = task.now.fields; form = task.now.form })
+        (S.coming input.old) status text
         × Appends (W.contents out.old) (W.contents out.new) text) }
     ensures too_long { IsErrOf result InputTooLong → (rest : Option (List ℕ))
         × ReadsTooMuchCapture (S.coming input.old) rest }
