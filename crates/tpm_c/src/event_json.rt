@@ -6,10 +6,11 @@ ghost use Rattle.tpm_output.specs.Json.{json_from};
 ghost use Rattle.tpm_event_marks.specs.PathMarks.{marks_of_path_text};
 ghost use Rattle.tpm_c.specs.EventJson.{IsJsonIn, IsObjectTold};
 
-use tpm_event_marks::{PathText, Record};
+use tpm_event_marks::PathText;
 use tpm_log::{LogPlace, event_at};
 use tpm_output::lent::json_in;
 use tpm_output::tell::Tell;
+use tpm_record_marks::Record;
 
 // Tells a thing at the beginning of `out`, and says how many bytes that has; or 0 where there is less room.
 fn put_json<X: Tell>(out: &mut [u8], thing: &X) -> usize
