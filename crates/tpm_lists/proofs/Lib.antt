@@ -1,4 +1,5 @@
 pub mod Registers
+pub mod Below
 pub mod AllowFinding
 mod AllowFronts
 mod AllowReading
