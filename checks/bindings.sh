@@ -121,8 +121,8 @@ ask_lists() {
     done
 }
 
-# ask_spellings: of a log and a quote of what it extends lists whose first line is spelled otherwise, by words of awk,
-# and one with a long comment; with what tpmtool says of each.
+# ask_spellings: of a log and a quote of what it extends lists whose first line is spelled otherwise, as
+# checks/spelled.txt has it by words of awk, and one with a long comment; with what tpmtool says of each.
 ask_spellings() {
     log=checks/logs/secure_types list=$room/lists/secure_types number=10
     bytes=$(by_python checks/quotes/made.py "$log.registers" 6e6f sha256:7 | xxd -p | tr -d '\n')
@@ -130,49 +130,7 @@ ask_spellings() {
     while IFS= read -r change; do
         number=$((number + 1))
         awk "NR == 1 { $change } 1" "$list" >"$list.$number"
-    done <<'CHANGES'
-$3 = toupper($3)
-$1 = toupper($1)
-$0 = " " $0
-$0 = "\t" $0
-$1 = $1 " "
-$2 = $2 " "
-$0 = $1 "\t" $2 " " $3
-$0 = $1 " " $2 "\t" $3
-$0 = $1 " " $2 " " $3
-$0 = $1 " " $2 " " $3 " "
-$0 = $1 " " $2 " " $3 "\t"
-$0 = $1 " " $2 " " $3 "\t" $4
-$0 = $1 " " $2 " " $3 "\r"
-$0 = $0 "\r"
-$0 = $1 " " $2 " " $3 "# " $4
-$0 = $1 " " $2 " #" $3
-$2 = "0" $2
-$2 = "+" $2
-$2 = $2 + 17
-$2 = "\331\247"
-$3 = $3 "00"
-$3 = $3 "0"
-$3 = substr($3, 2)
-$3 = substr($3, 3)
-$3 = "0g" substr($3, 3)
-$3 = substr($3, 3) "\t\t"
-$0 = "#" $0
-$0 = "# \t" $0
-$0 = "# \r" $0
-$0 = "# \f" $0
-$0 = "# \v" $0
-$0 = "# \034" $0
-$0 = "# \302\205" $0
-$0 = "# \342\200\250" $0
-$0 = ""
-$0 = "  "
-$0 = "\t"
-$0 = "\r"
-$0 = "\f"
-$0 = "  # words\n\n" $0
-$0 = $0 "\n\nsha256 7\nsha1 24"
-CHANGES
+    done <checks/spelled.txt
     { echo "#$(zeros 50000)" && cat "$list"; } >"$list.long"
     for asked in "$list".[0-9]* "$list.long"; do
         echo "attest $log.log $bytes 6e6f any sha256 $asked" >>"$table"
@@ -264,7 +222,19 @@ ROWS
     { cut -f 1 "$room/codes" && echo 1084; } | sed 's/^/code /' >>"$table"
     { cut -f 2 "$room/codes" && echo 0x1084; } >>"$table.wanted"
     ! [ -d checks/quotes ] || ask_quotes
-    ! command -v python3 >/dev/null 2>&1 || { ask_lists && ask_spellings; }
+    ! command -v python3 >/dev/null 2>&1 || { ask_lists && ask_spellings && ask_vouched; }
+}
+
+# ask_vouched: what a quote vouches for in the log of what was measured, and in logs in which data, types or further
+# records are others (checks/logs/NAME.vouched).
+ask_vouched() {
+    by_python checks/quotes/made.py checks/logs/attested.registers 6e6f sha1:1,8+sha256:0,1,4,7,8+sha384:1,7 >"$room/quote"
+    bytes=$(xxd -p "$room/quote" | tr -d '\n')
+    for log in attested attested_changed attested_relabelled attested_added; do
+        echo "vouched checks/logs/$log.log $bytes" >>"$table"
+        awk '{ sub(/^vouched=-?/, "", $6); gsub(/,/, " ", $6); print $2 ($6 == "" ? "" : " " $6) }' \
+            "checks/logs/$log.vouched" >>"$table.wanted"
+    done
 }
 
 # make_changed: a hundred thousand commands and replies of the table, each with a digit changed, some cut.

@@ -358,6 +358,29 @@ same_allowed() {
     done
 }
 
+# same_spelled: lists whose first line is spelled otherwise, as checks/spelled.txt has it by words of awk, and lists with
+# a comment that is long and with words behind a digest that are: what tpmtool says of each. Where a line is wrong, the
+# status is 2.
+same_spelled() {
+    log=checks/logs/secure_types number=0
+    by_python checks/logs/allowed.py lists $log.events >"$room/list"
+    by_python checks/quotes/made.py $log.registers 6e6f sha256:7 >"$room/quote"
+    while IFS= read -r change; do
+        number=$((number + 1))
+        awk "NR == 1 { $change } 1" "$room/list" >"$room/list.$number"
+    done <checks/spelled.txt
+    { printf '# %0253d' 0 && echo "sha256 7 $(zeros 32)" && sed 1d "$room/list"; } >"$room/list.comment"
+    { sed -n 1p "$room/list" | tr -d '\n' && printf ' %0300d\n' 0 && sed 1d "$room/list"; } >"$room/list.words"
+    for list in "$room"/list.*; do
+        "$program" check $log.log --attest "$room/quote" --nonce 6e6f --any-selection --allow "$list" >"$room/out.tool"
+        ends=$?
+        grep -e '^allowed ' -e '^unknown ' -e '^no register$' -e '^selection lacks ' "$room/out.tool" >"$room/out.wanted"
+        if grep -q '^line ' "$room/out.tool"; then ends=2; fi
+        attest_tells $ends --allowed $log.log "$room/quote" sha256 6e6f "$list" 2>/dev/null || return 1
+    done
+    [ "$number" -gt 40 ]
+}
+
 # same_signatures: a signature's parts, by an RSA key that of checks/quotes, and what is refused.
 same_signatures() {
     { echo 001400040100 | as_bytes && cat checks/quotes/rsa-sha1.sig; } >"$room/signature"
@@ -764,8 +787,9 @@ else
     if command -v python3 >/dev/null 2>&1 && begin_python; then
         holds "what a quote vouches for in logs of other data, types and records through C" same_forged
         holds "a list of digests beside the logs through C" same_allowed
+        holds "lists that are spelled otherwise say through C what tpmtool says of them" same_spelled
     else
-        skip "made quotes, and a list of digests, beside the logs through C" "there is no python3"
+        skip "made quotes, and lists of digests, beside the logs through C" "there is no python3"
     fi
     holds "signatures by their parts through C" same_signatures
     holds "the digest of a policy through C" same_policies

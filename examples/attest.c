@@ -187,31 +187,71 @@ static int show_vouched(void) {
 static struct tpm_allowed list[1 << 12];
 static size_t list_len;
 
-/* Reads lines as `sha256 4 DIGEST`, behind which stand any words; # begins a comment. */
-static void read_list(const char *path) {
-    char line[256], name[8], digest[97];
+/* Bytes of a line of the list. */
+struct words {
+    const char *text;
+    size_t len;
+};
+
+/* Cuts the first word off, with the space behind it. */
+static struct words cut(struct words *line) {
+    struct words first = {line->text, 0};
+    while (first.len < line->len && first.text[first.len] != ' ')
+        first.len++;
+    line->text += first.len + (first.len < line->len);
+    line->len -= first.len + (first.len < line->len);
+    return first;
+}
+
+/* The register whose number in decimal this is, or 24. */
+static unsigned register_named(struct words word) {
+    char name[3];
+    unsigned pcr = 0;
+    while (pcr < 24 && ((size_t)sprintf(name, "%u", pcr) != word.len || memcmp(name, word.text, word.len) != 0))
+        pcr++;
+    return pcr;
+}
+
+/* Reads a line as `sha256 4 DIGEST`, behind which stand any words; # begins a comment. */
+static void read_line(struct words line) {
+    const char *comment = memchr(line.text, '#', line.len);
+    struct words name, number, digits;
+    const struct bank *bank;
+    struct tpm_allowed *entry;
     unsigned pcr;
-    FILE *file = fopen(path, "r");
-    while (file != NULL && fgets(line, sizeof line, file) != NULL) {
-        const struct bank *bank;
-        struct tpm_allowed *entry = list + list_len;
-        int words;
-        line[strcspn(line, "#")] = 0;
-        words = sscanf(line, "%7s %u %96s", name, &pcr, digest);
-        if (words <= 0)
-            continue;
-        bank = bank_named(name, strlen(name));
-        if (words != 3 || bank == NULL || pcr > 23 || list_len == sizeof list / sizeof *list)
-            usage();
-        entry->pcr = pcr;
-        entry->hash = bank->hash;
-        if (read_hex(digest, entry->digest, sizeof entry->digest) != bank->size)
-            usage();
-        list_len++;
-    }
-    if (file == NULL)
+    if (comment != NULL)
+        line.len = (size_t)(comment - line.text);
+    if (strspn(line.text, " ") >= line.len)
+        return;
+    name = cut(&line);
+    number = cut(&line);
+    digits = cut(&line);
+    bank = bank_named(name.text, name.len);
+    pcr = register_named(number);
+    if (bank == NULL || pcr > 23 || digits.len != 2 * bank->size || list_len == sizeof list / sizeof *list)
         usage();
-    fclose(file);
+    entry = list + list_len++;
+    entry->pcr = pcr;
+    entry->hash = bank->hash;
+    for (size_t i = 0; i < bank->size; i++) {
+        char digit[3] = {digits.text[2 * i], digits.text[2 * i + 1], 0};
+        if (strspn(digit, "0123456789abcdefABCDEF") != 2)
+            usage();
+        entry->digest[i] = (uint8_t)strtoul(digit, NULL, 16);
+    }
+}
+
+/* Reads a list's lines, however long. */
+static void read_list(const char *path) {
+    static char text[1 << 20];
+    struct words line = {text, 0};
+    size_t len = read_file(path, (uint8_t *)text, sizeof text - 1);
+    for (size_t at = 0; at < len; at += line.len + 1) {
+        const char *end = memchr(text + at, '\n', len - at);
+        line.text = text + at;
+        line.len = end == NULL ? len - at : (size_t)(end - line.text);
+        read_line(line);
+    }
 }
 
 /* The registers that the list names, as a TPML_PCR_SELECTION with an entry for each bank. */

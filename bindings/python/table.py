@@ -48,6 +48,12 @@ def events(log):
         yield f"{it.register} {it.type:08x} {text(it.data)}{''.join(digests)}"
 
 
+def vouched(log, attest):
+    for it in vinjakwe.events(log):
+        parts = vinjakwe.vouched(it, attest)
+        yield " ".join([str(it.register), *(f"{bank}:{parts[bank]}" for bank in vinjakwe.HASHES if bank in parts)])
+
+
 def escaped(unit):
     if unit in (0x22, 0x5C):
         return "\\" + chr(unit)
@@ -242,6 +248,8 @@ class Answers:
         elif verb == "quote":
             verdict = vinjakwe.check_quote(whole(words[0]), unhex(words[1]), words[2])
             yield "quote " + said(verdict).removeprefix("digest ")
+        elif verb == "vouched":
+            yield from vouched(whole(words[0]), vinjakwe.decode_attest(unhex(words[1])))
         elif verb == "attest":
             yield from attest(whole(words[0]), *words[1:])
         elif verb == "frames":

@@ -123,6 +123,21 @@ func events(log []byte) {
 	}
 }
 
+// vouched prints each record's register, and of each bank what the quote vouches for.
+func vouched(log []byte, attest *vinjakwe.Attest) {
+	for it := vinjakwe.NewEvents(log); it.Next(); {
+		event := it.Event()
+		fmt.Fprint(out, event.Register)
+		parts := event.Vouched(attest)
+		for _, name := range []string{"sha1", "sha256", "sha384"} {
+			if part := parts[hashes[name]]; part != vinjakwe.Nothing {
+				fmt.Fprintf(out, " %s:%s", name, part)
+			}
+		}
+		fmt.Fprintln(out)
+	}
+}
+
 // texts prints each record by the name of its type, with its text as JSON escapes it.
 func texts(log []byte) {
 	it := vinjakwe.NewEvents(log)
@@ -229,6 +244,12 @@ func main() {
 			} else {
 				fmt.Fprintln(out, "quote", strings.TrimPrefix(verdict.String(), "digest "))
 			}
+		case "vouched":
+			quote, err := vinjakwe.DecodeAttest(unhex(words[2]))
+			if err != nil {
+				panic(err)
+			}
+			vouched(read(words[1]), quote)
 		case "attest":
 			attest(words)
 		case "frames":

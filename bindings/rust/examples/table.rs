@@ -89,7 +89,22 @@ fn tell_events(out: &mut impl Write, log: &[u8]) -> std::io::Result<()> {
     Ok(())
 }
 
-// Each record by the name of its type, with its text as JSON escapes it.
+// Each record's register, and of each bank what the quote vouches for.
+fn tell_vouched(out: &mut impl Write, log: &[u8], attest: &Attest) -> std::io::Result<()> {
+    for it in events(log).map_while(Result::ok) {
+        write!(out, "{}", it.register)?;
+        for bank in Bank::ALL {
+            match it.vouched(attest, bank) {
+                Some(MeasuredPart::Other) => write!(out, " {bank}:digest")?,
+                Some(part) => write!(out, " {bank}:{part}")?,
+                None => {}
+            }
+        }
+        writeln!(out)?;
+    }
+    Ok(())
+}
+
 // UTF-16, with U+FFFD for half of a pair.
 fn wide(chars: impl Iterator<Item = char>) -> String {
     let units = chars.collect::<String>().encode_utf16().collect::<Vec<_>>();
@@ -184,6 +199,7 @@ fn tell_objects(out: &mut impl Write, log: &[u8]) -> std::io::Result<()> {
     Ok(())
 }
 
+// Each record by the name of its type, with its text as JSON escapes it.
 fn tell_texts(out: &mut impl Write, log: &[u8]) -> std::io::Result<()> {
     for found in events(log) {
         let it = match found {
@@ -342,6 +358,9 @@ fn main() -> std::io::Result<()> {
                 Ok(verdict) => writeln!(out, "quote {}", verdict.to_string().trim_start_matches("digest "))?,
                 Err(fault) => writeln!(out, "{fault}")?,
             },
+            "vouched" => {
+                tell_vouched(out, &std::fs::read(words[1])?, &Attest::decode(&unhex(words[2])).unwrap())?
+            }
             "attest" => attest(out, &words)?,
             "frames" => frames(out, words[1].parse().unwrap(), &unhex(words[2]))?,
             "device" => {

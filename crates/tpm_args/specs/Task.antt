@@ -142,15 +142,26 @@ DigestsGoTogether value =
     (goes_with (is_some (value (codes "allow"))) (is_some (value (codes "attest")) && has_neither value) ≡ true)
     × (goes_with (is_given (value (codes "extends"))) (is_alone value) ≡ true)
 
--- what is expected of quotes: a nonce, a list of registers and a signer go with a quote as it was signed, and a hash
+-- what is expected of quotes: bytes of this name, and a list of registers, go with a quote as it was signed, and a hash
 -- with it or with the information of a quote
+abbrev pub IsExpected : (Text → Option Text) → Text → Option (Vec ℕ) → Type 0
+IsExpected value name bytes = IsWith (value name) (value (codes "attest")) × AreBytes (value name) bytes
+
+abbrev pub IsRequired : (Text → Option Text) → Option (List Selection) → Type 0
+IsRequired value required =
+    IsWith (value (codes "require")) (value (codes "attest")) × Requires (value (codes "require")) required
+
+abbrev pub IsHashExpected : (Text → Option Text) → Option Alg → Type 0
+IsHashExpected value hash =
+    IsHashIf (value (codes "hash")) hash
+    × IsWithEither (value (codes "hash")) (value (codes "quote")) (value (codes "attest"))
+
 abbrev pub AreExpected : (Text → Option Text) → CheckOptions → Type 0
 AreExpected value o =
-    IsWith (value (codes "nonce")) (value (codes "attest")) × AreBytes (value (codes "nonce")) o.nonce
-    × IsWith (value (codes "require")) (value (codes "attest")) × Requires (value (codes "require")) o.required
-    × IsWith (value (codes "signer")) (value (codes "attest")) × AreBytes (value (codes "signer")) o.signer
-    × IsHashIf (value (codes "hash")) o.hash
-    × IsWithEither (value (codes "hash")) (value (codes "quote")) (value (codes "attest"))
+    IsExpected value (codes "nonce") o.nonce
+    × IsRequired value o.required
+    × IsExpected value (codes "signer") o.signer
+    × IsHashExpected value o.hash
 
 -- A list of allowed digests names the registers that a quote has to select, so any others do.
 abbrev pub AreOptions : (Text → Option Text) → CheckOptions → Type 0

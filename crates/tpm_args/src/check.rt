@@ -10,7 +10,7 @@ ghost use Rattle.tpm_options.specs.declared.CheckOptions.{CheckOptions as CheckO
 ghost use Rattle.tpm_args.specs.inner.Stop.{IsAsked, IsMemoryOr};
 ghost use Rattle.tpm_args.specs.Task.{AreBytes, AreOptions, DigestsGoTogether, GoTogether, IsHash, IsHashIf};
 ghost use Rattle.tpm_args.specs.Task.{form_asked, goes_with, has_neither, is_alone, is_uncompared};
-ghost use Rattle.tpm_args.specs.Task.{IsWith, IsWithEither, Requires};
+ghost use Rattle.tpm_args.specs.Task.{IsExpected, IsHashExpected, IsRequired, IsWith, IsWithEither};
 
 use crate::bytes::bytes_in;
 use crate::given::{form_asked, is_given};
@@ -66,27 +66,17 @@ pub(crate) fn options<'a>(usage: Usage, words: &ArgMatches<'a>) -> Result<CheckO
 {
     check_flags(usage, words)?;
     check_digests(usage, words)?;
-    let attest = words.get_str("attest");
-    let nonce = words.get_str("nonce");
-    with_attest(usage, nonce, "--nonce <HEX>", attest)?;
-    let nonce = bytes(usage, nonce, "--nonce <HEX>")?;
-    let list = words.get_str("require");
-    with_attest(usage, list, "--require <LIST>", attest)?;
-    let required = required(usage, list)?;
-    let signer = words.get_str("signer");
-    with_attest(usage, signer, "--signer <HEX>", attest)?;
-    let signer = bytes(usage, signer, "--signer <HEX>")?;
-    let name = words.get_str("hash");
-    let hash = hash(usage, name)?;
-    let quote = words.get_str("quote");
-    with_quote(usage, name, quote, attest)?;
+    let nonce = bytes_expected(usage, words, "nonce", "--nonce <HEX>")?;
+    let required = required(usage, words)?;
+    let signer = bytes_expected(usage, words, "signer", "--signer <HEX>")?;
+    let hash = hash_expected(usage, words)?;
     Ok(CheckOptions {
         nonce,
         any_nonce: is_given(words, "any-nonce"),
         required,
         any_selection: is_either(is_given(words, "any-selection"), has(words, "allow")),
         signer,
-        quote,
+        quote: words.get_str("quote"),
         hash,
         secure_boot: is_given(words, "secure-boot"),
         any_state: is_given(words, "any-state"),
@@ -240,6 +230,24 @@ fn bytes(usage: Usage, text: Option<&str>, word: &str) -> Result<Option<Vec<u8>>
     }
 }
 
+// The bytes that are expected of a quote, where a word is given. A usage fault where it has none, or no quote as it was
+// signed is given.
+fn bytes_expected(
+    usage: Usage,
+    words: &ArgMatches<'_>,
+    name: &str,
+    word: &str,
+) -> Result<Option<Vec<u8>>, Stop>
+    ensures { MatchResult result
+        (λ bytes. IsExpected (first_value (found_of words.now)) name.now bytes)
+        (IsMemoryOr ((bytes : Option (VecValue ℕ))
+        → IsExpected (first_value (found_of words.now)) name.now bytes → ⊥)) }
+{
+    let text = words.get_str(name);
+    with_attest(usage, text, word, words.get_str("attest"))?;
+    bytes(usage, text, word)
+}
+
 // Why a hash is at fault without a quote.
 fn without_quote(of: Subcommand) -> &'static str {
     match of {
@@ -269,13 +277,16 @@ fn with_quote(
     }
 }
 
-// The registers that a list names, where it is given. A usage fault where it is none.
-fn required(usage: Usage, list: Option<&str>) -> Result<Option<Selections>, Stop>
+// The registers that have to be selected, where a list is given. A usage fault where it is none, or no quote as it was
+// signed is given.
+fn required(usage: Usage, words: &ArgMatches<'_>) -> Result<Option<Selections>, Stop>
     ensures { MatchResult result
-        (λ required. Requires (option_map (λ l. l.now) list.entry) required)
+        (λ required. IsRequired (first_value (found_of words.now)) required)
         (IsMemoryOr ((required : Option (List SelectionValue))
-        → Requires (option_map (λ l. l.now) list.entry) required → ⊥)) }
+        → IsRequired (first_value (found_of words.now)) required → ⊥)) }
 {
+    let list = words.get_str("require");
+    with_attest(usage, list, "--require <LIST>", words.get_str("attest"))?;
     let Some(text) = list else {
         return Ok(None);
     };
@@ -312,4 +323,16 @@ fn hash(usage: Usage, name: Option<&str>) -> Result<Option<Alg>, Stop>
             Err(invalid_value(usage, text, "--hash <NAME>", reason))
         }
     }
+}
+
+// The hash that is expected of a quote, where a word is given. A usage fault where it names none, or no quote is given.
+fn hash_expected(usage: Usage, words: &ArgMatches<'_>) -> Result<Option<Alg>, Stop>
+    ensures { MatchResult result (λ hash. IsHashExpected (first_value (found_of words.now)) hash)
+        (IsMemoryOr ((hash : Option AlgValue)
+        → IsHashExpected (first_value (found_of words.now)) hash → ⊥)) }
+{
+    let name = words.get_str("hash");
+    let hash = hash(usage, name)?;
+    with_quote(usage, name, words.get_str("quote"), words.get_str("attest"))?;
+    Ok(hash)
 }
