@@ -228,7 +228,8 @@ ROWS
 # ask_vouched: what a quote vouches for in the log of what was measured, and in logs in which data, types or further
 # records are others (checks/logs/NAME.vouched).
 ask_vouched() {
-    by_python checks/quotes/made.py checks/logs/attested.registers 6e6f sha1:1,8+sha256:0,1,4,7,8+sha384:1,7 >"$room/quote"
+    list=sha1:1,8+sha256:0,1,4,7,8+sha384:1,7
+    by_python checks/quotes/made.py checks/logs/attested.registers 6e6f "$list" >"$room/quote"
     bytes=$(xxd -p "$room/quote" | tr -d '\n')
     for log in attested attested_changed attested_relabelled attested_added; do
         echo "vouched checks/logs/$log.log $bytes" >>"$table"

@@ -358,9 +358,9 @@ same_allowed() {
     done
 }
 
-# same_spelled: lists whose first line is spelled otherwise, as checks/spelled.txt has it by words of awk, and lists with
-# a comment that is long and with words behind a digest that are: what tpmtool says of each. Where a line is wrong, the
-# status is 2.
+# same_spelled: lists whose first line is spelled otherwise, as checks/spelled.txt has it by words of awk, and lists
+# with a comment that is long and with words behind a digest that are: what tpmtool says of each. Where a line is wrong,
+# the status is 2.
 same_spelled() {
     log=checks/logs/secure_types number=0
     by_python checks/logs/allowed.py lists $log.events >"$room/list"
@@ -372,10 +372,10 @@ same_spelled() {
     { printf '# %0253d' 0 && echo "sha256 7 $(zeros 32)" && sed 1d "$room/list"; } >"$room/list.comment"
     { sed -n 1p "$room/list" | tr -d '\n' && printf ' %0300d\n' 0 && sed 1d "$room/list"; } >"$room/list.words"
     for list in "$room"/list.*; do
-        "$program" check $log.log --attest "$room/quote" --nonce 6e6f --any-selection --allow "$list" >"$room/out.tool"
+        "$program" check $log.log --attest "$room/quote" --nonce 6e6f --any-selection --allow "$list" >"$room/tool"
         ends=$?
-        grep -e '^allowed ' -e '^unknown ' -e '^no register$' -e '^selection lacks ' "$room/out.tool" >"$room/out.wanted"
-        if grep -q '^line ' "$room/out.tool"; then ends=2; fi
+        grep -e '^allowed ' -e '^unknown ' -e '^no register$' -e '^selection lacks ' "$room/tool" >"$room/out.wanted"
+        if grep -q '^line ' "$room/tool"; then ends=2; fi
         attest_tells $ends --allowed $log.log "$room/quote" sha256 6e6f "$list" 2>/dev/null || return 1
     done
     [ "$number" -gt 40 ]
