@@ -359,8 +359,8 @@ same_allowed() {
 }
 
 # same_spelled: lists whose first line is spelled otherwise, as checks/spelled.txt has it by words of awk, and lists
-# with a comment that is long and with words behind a digest that are: what tpmtool says of each. Where a line is wrong,
-# the status is 2.
+# with a long comment, which ends with a line that allows a digest, and with long words behind a digest: what tpmtool
+# says of each. Where a line is wrong, the status is 2.
 same_spelled() {
     log=checks/logs/secure_types number=0
     by_python checks/logs/allowed.py lists $log.events >"$room/list"
@@ -369,7 +369,7 @@ same_spelled() {
         number=$((number + 1))
         awk "NR == 1 { $change } 1" "$room/list" >"$room/list.$number"
     done <checks/spelled.txt
-    { printf '# %0253d' 0 && echo "sha256 7 $(zeros 32)" && sed 1d "$room/list"; } >"$room/list.comment"
+    { printf '# %0253d' 0 && cat "$room/list"; } >"$room/list.comment"
     { sed -n 1p "$room/list" | tr -d '\n' && printf ' %0300d\n' 0 && sed 1d "$room/list"; } >"$room/list.words"
     for list in "$room"/list.*; do
         "$program" check $log.log --attest "$room/quote" --nonce 6e6f --any-selection --allow "$list" >"$room/tool"
