@@ -21,12 +21,15 @@ startup_types = table_as STARTUP_TYPES
 abbrev pub session_types : List Named
 session_types = table_as SESSION_TYPES
 
+-- the types of algorithms
+abbrev pub is_algorithm : (type : List ℕ) → Bool
+is_algorithm type =
+    bytes_eq type (text "TPMI_ALG_HASH") || bytes_eq type (text "TPMI_ALG_SYM") || bytes_eq type (text "TPMU_SYM_MODE")
+
 -- the table for a type, which is empty for any other
 unfoldable pub names_for : (type : List ℕ) → List Named
 names_for type =
-    if bytes_eq type (text "TPMI_ALG_HASH") then algorithms
-    else if bytes_eq type (text "TPMI_ALG_SYM") then algorithms
-    else if bytes_eq type (text "TPMU_SYM_MODE") then algorithms
+    if is_algorithm type then algorithms
     else if bytes_eq type (text "TPM_SU") then startup_types
     else if bytes_eq type (text "TPM_SE") then session_types
     else []

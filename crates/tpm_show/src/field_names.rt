@@ -3,7 +3,7 @@
 ghost use Rattle.std.specs.Prelude.{◌≡◌, ◌++◌, IfOk, map, option_map, string_bytes};
 ghost use Rattle.tpm_output.specs.Named.{row_as};
 ghost use Rattle.tpm_show.specs.inner.CommandNames.{listed_as};
-ghost use Rattle.tpm_show.specs.FieldNames.{algorithms, command_in, command_text, is_handle, name_of};
+ghost use Rattle.tpm_show.specs.FieldNames.{algorithms, command_in, command_text, is_algorithm, is_handle, name_of};
 ghost use Rattle.tpm_show.specs.FieldNames.{named_of, names_for, number_in, session_types, startup_types, value_name};
 
 use crate::command_names::{Listed, command_of};
@@ -82,16 +82,18 @@ const SESSION_TYPES: [Row; 3] = names![
     0x03 "TPM_SE_TRIAL",
 ];
 
+fn is_algorithm(kind: &str) -> bool
+    ensures { result ≡ is_algorithm kind.now }
+{
+    kind == "TPMI_ALG_HASH" || kind == "TPMI_ALG_SYM" || kind == "TPMU_SYM_MODE"
+}
+
 // The table for a type, which is empty for any other.
 #[tactic(auto, unfolding(crate::specs::FieldNames::names_for))]
 fn names_for(kind: &str) -> &'static [Row]
     ensures { map row_as result.now ≡ names_for kind.now }
 {
-    if kind == "TPMI_ALG_HASH" {
-        &ALGORITHMS
-    } else if kind == "TPMI_ALG_SYM" {
-        &ALGORITHMS
-    } else if kind == "TPMU_SYM_MODE" {
+    if is_algorithm(kind) {
         &ALGORITHMS
     } else if kind == "TPM_SU" {
         &STARTUP_TYPES

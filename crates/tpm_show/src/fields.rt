@@ -5,6 +5,7 @@ ghost use Rattle.tpm_wire.specs.Spelling.{spelling};
 ghost use Rattle.tpm_wire.specs.Structures.{sized_bytes};
 ghost use Rattle.tpm_commands.specs.Events.{event_bytes};
 ghost use Rattle.tpm_commands.specs.Row.{named};
+ghost use Rattle.tpm_commands.specs.declared.command.CommandBody.TheVariants.{StartAuthSession};
 ghost use Rattle.tpm_show.specs.Fields.{command_fields, reply_fields};
 ghost use Rattle.tpm_show.specs.FieldText.{value_told};
 
@@ -12,7 +13,9 @@ use crate::field::Field;
 use crate::field_text::tell_value;
 use crate::teller::Teller;
 use arrayvec::ArrayVec;
-use tpm_commands::{CommandBody, Event, NvDefineSpace, NvRead, PolicyPcr, ReplyBody, StartParams};
+use tpm_commands::{
+    CommandBody, Event, NvDefineSpace, NvRead, PolicyPcr, ReplyBody, StartAuth, StartParams,
+};
 use tpm_output::text::Pushed;
 use tpm_types::EncryptedSalt;
 use tpm_wire::{Wire, put_bytes};
@@ -45,9 +48,28 @@ fn tell_event<T: Teller>(teller: &mut T, event: &Event<'_>) -> Pushed
     )
 }
 
+#[tactic(auto, unfolding(tpm_types::specs::Constants::session_type, tpm_types::specs::Tpm2b::encrypted_salt, tpm_commands::specs::Commands::Session::start_auth_session))]
+fn tell_start_fields<T: Teller>(teller: &mut T, start: &StartAuth) -> Pushed
+    ensures { OnOk result (T.told teller.new
+        ≡ T.told teller.old ++ flat_map T.marks (command_fields (StartAuthSession start.now))) }
+{
+    let StartParams {
+        nonce_caller,
+        session_type,
+        symmetric,
+        auth_hash,
+    } = &start.params;
+    prove!(nonce_caller.len() + symmetric.len() + auth_hash.len() <= 512);
+    Field("  ", "nonceCaller", "TPM2B_NONCE").tell(teller, nonce_caller)?;
+    Field("  ", "encryptedSalt", "TPM2B_ENCRYPTED_SECRET").tell(teller, &EncryptedSalt::Empty)?;
+    Field("  ", "sessionType", "TPM_SE").tell(teller, session_type)?;
+    Field("  ", "symmetric", "TPMT_SYM_DEF").tell_structure(teller, symmetric)?;
+    Field("  ", "authHash", "TPMI_ALG_HASH").tell(teller, auth_hash)
+}
+
 /// Tells each parameter of a command: its name, its type and its bytes (Part 3, the table of the command), and what
 /// stands in it.
-#[tactic(auto, unfolding(tpm_types::specs::Constants::startup_type, tpm_types::specs::Constants::session_type, tpm_types::specs::Tpm2b::encrypted_salt, tpm_commands::specs::Commands::Startup::startup, tpm_commands::specs::Commands::Nv::nv_define_space, tpm_commands::specs::Commands::Pcr::pcr_event, tpm_commands::specs::Commands::Nv::nv_read, tpm_commands::specs::Commands::Context::flush_context, tpm_commands::specs::Commands::Policy::policy_command_code, tpm_commands::specs::Commands::Policy::policy_or, tpm_commands::specs::Commands::Session::start_auth_session, tpm_commands::specs::Commands::Pcr::pcr_read, tpm_commands::specs::Commands::Policy::policy_pcr, tpm_commands::specs::Commands::Pcr::pcr_extend))]
+#[tactic(auto, unfolding(tpm_types::specs::Constants::startup_type, tpm_commands::specs::Commands::Startup::startup, tpm_commands::specs::Commands::Nv::nv_define_space, tpm_commands::specs::Commands::Pcr::pcr_event, tpm_commands::specs::Commands::Nv::nv_read, tpm_commands::specs::Commands::Context::flush_context, tpm_commands::specs::Commands::Policy::policy_command_code, tpm_commands::specs::Commands::Policy::policy_or, tpm_commands::specs::Commands::Pcr::pcr_read, tpm_commands::specs::Commands::Policy::policy_pcr, tpm_commands::specs::Commands::Pcr::pcr_extend))]
 pub(crate) fn tell_command_fields<T: Teller>(teller: &mut T, body: &CommandBody<'_>) -> Pushed
     ensures { OnOk result
         (T.told teller.new ≡ T.told teller.old ++ flat_map T.marks (command_fields body.now)) }
@@ -79,23 +101,7 @@ pub(crate) fn tell_command_fields<T: Teller>(teller: &mut T, body: &CommandBody<
             prove!(digests.len() <= 512);
             Field("  ", "pHashList", "TPML_DIGEST").tell_structure(teller, digests)
         }
-        CommandBody::StartAuthSession(start) => {
-            let StartParams {
-                nonce_caller,
-                session_type,
-                symmetric,
-                auth_hash,
-            } = &start.params;
-            prove!(nonce_caller.len() + symmetric.len() + auth_hash.len() <= 512);
-            Field("  ", "nonceCaller", "TPM2B_NONCE").tell(teller, nonce_caller)?;
-            Field("  ", "encryptedSalt", "TPM2B_ENCRYPTED_SECRET").tell(
-                teller,
-                &EncryptedSalt::Empty,
-            )?;
-            Field("  ", "sessionType", "TPM_SE").tell(teller, session_type)?;
-            Field("  ", "symmetric", "TPMT_SYM_DEF").tell_structure(teller, symmetric)?;
-            Field("  ", "authHash", "TPMI_ALG_HASH").tell(teller, auth_hash)
-        }
+        CommandBody::StartAuthSession(start) => tell_start_fields(teller, start),
         CommandBody::PcrRead(selections) => {
             prove!(selections.len() <= 512);
             Field("  ", "pcrSelectionIn", "TPML_PCR_SELECTION").tell_structure(teller, selections)

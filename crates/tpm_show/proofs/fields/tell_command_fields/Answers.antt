@@ -4,7 +4,6 @@ use Rattle.tpm_commands.specs.Commands.Nv.{nv_define_space, nv_read}
 use Rattle.tpm_commands.specs.Commands.Pcr.{pcr_event, pcr_read, pcr_extend}
 use Rattle.tpm_commands.specs.Commands.Context.{flush_context}
 use Rattle.tpm_commands.specs.Commands.Policy.{policy_or, policy_pcr}
-use Rattle.tpm_commands.specs.Commands.Session.{start_auth_session}
 use Rattle.tpm_show.proofs.fields.tell_command_fields.Goals as goal
 
 pub returns-in_ok-tell-in-NvDefineSpace : goal.returns-in_ok-tell-in-NvDefineSpace
@@ -34,18 +33,6 @@ unfolding policy_or
 returns-in-PolicyOr g c =
     let joined = simp pieces at c.tell_structure-in-PolicyOr.ensures in
     rw c.in-PolicyOr.is (simp pieces joined)
-
-pub returns-in_ok-tell_structure-in-StartAuthSession : goal.returns-in_ok-tell_structure-in-StartAuthSession
-unfolding start_auth_session
-returns-in_ok-tell_structure-in-StartAuthSession g c =
-    let written = simp (
-      c.in_ok-tell_structure-in-StartAuthSession.ensures,
-      c.in_ok-tell-in-StartAuthSession-3.ensures,
-      c.in_ok-tell-in-StartAuthSession-2.ensures,
-      c.in_ok-tell-in-StartAuthSession.ensures,
-    ) at c.tell-in-StartAuthSession-4.ensures in
-    let joined = simp pieces at written in
-    rw c.in-StartAuthSession.is (simp pieces joined)
 
 pub returns-in-PcrRead : goal.returns-in-PcrRead
 unfolding pcr_read

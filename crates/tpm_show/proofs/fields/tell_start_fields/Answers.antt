@@ -1,0 +1,14 @@
+use Rattle.tpm_show.proofs.Pieces.{pieces}
+use Rattle.tpm_commands.specs.Commands.Session.{start_auth_session}
+use Rattle.tpm_show.proofs.fields.tell_start_fields.Goals as goal
+
+pub returns : goal.returns
+unfolding start_auth_session
+returns g c =
+    let written = simp (
+      c.in_ok-tell_structure.ensures,
+      c.in_ok-tell-3.ensures,
+      c.in_ok-tell-2.ensures,
+      c.in_ok-tell.ensures,
+    ) at c.tell-4.ensures in
+    let joined = simp pieces at written in simp pieces joined
