@@ -2,11 +2,12 @@
 use Rattle.std.proofs.Common.{◌≡◌, ◌<◌, ◌≤◌, ◌+◌, ◌*◌, ◌/◌, ◌%◌, ℕ, List, [], ◌∷◌, Bool, true, false, Some, None, Ok, Err}
 use Rattle.std.proofs.Common.{length, slice_index, take, zero, suc}
 use Rattle.std.proofs.Common.{arith, refl, ap, sym, ◌∙◌, Result, eqb, inl, inr, map}
-use Rattle.std.specs.Prelude.{◌&&◌, Option, min, nat_eq, unwrap_or}
+use Rattle.std.specs.Prelude.{◌&&◌, ◌||◌, Option, min, nat_eq, unwrap_or}
 use Rattle.std.specs.Bool.{one_answer}
-use Rattle.std.specs.Char.{to_ascii_lowercase}
+use Rattle.std.specs.Char.{is_ascii_uppercase, to_ascii_lowercase}
 use Rattle.std.specs.Cmp.Lexicographic.{pointwise}
-use Rattle.std.specs.List.{list_all}
+use Rattle.std.specs.List.{list_all, list_any}
+use Rattle.std.proofs.lemmas.Bool.Decides.{nat_tests}
 use Rattle.std.proofs.lemmas.Bool.{and_parts, cases_lt, eq-eqb, eqb-true}
 use Rattle.std.proofs.lemmas.List.{take_all}
 use Rattle.std.proofs.lemmas.List.Sums.{AllPass-from_list_all, list_all-from_AllPass}
@@ -197,12 +198,6 @@ bucket_of_first (first ∷ second ∷ rest) = refl
 
 -- ---- a digest beside another
 
--- No other has these digits.
-pub one_digest : (digits bytes digest : List ℕ) → bytes_in digits ≡ Some bytes → IsBytes digest → digits ≡ encode_lower digest → bytes ≡ digest
-one_digest digits bytes digest is fits same =
-    let z : Ok bytes ≡ Ok digest = sym (decoded digits bytes is) ∙ ap decode_of same ∙ decode_of-encode_lower digest fits in
-    cc z
-
 -- They are the same where their digits are, in lower case.
 pub same_digits : (digits bytes digest : List ℕ) → bytes_in digits ≡ Some bytes → IsBytes digest
     → pointwise nat_eq (map to_ascii_lowercase digits) (encode_lower digest) ≡ pointwise nat_eq bytes digest
@@ -217,6 +212,19 @@ same_digits digits bytes digest is fits =
       λ same. texts.1 (lower ∙ ap encode_lower same),
     ) (bytes_eq-Decides bytes digest)
 
+stays_lower : (digit : ℕ) → is_ascii_uppercase digit ≡ false → to_ascii_lowercase digit ≡ digit
+stays_lower digit small = grind (arith, nat_tests)
+
+none_in : (first rest : Bool) → (first || rest) ≡ false → (first ≡ false) × (rest ≡ false)
+none_in true rest none = cc none
+none_in false rest none = (refl, none)
+
+stay_lower : (digits : List ℕ) → list_any is_ascii_uppercase digits ≡ false → map to_ascii_lowercase digits ≡ digits
+stay_lower [] none = refl
+stay_lower (d ∷ digits) none =
+    let parts = none_in (is_ascii_uppercase d) (list_any is_ascii_uppercase digits) none in
+    rw (stays_lower d parts.0, stay_lower digits parts.1) refl
+
 module _ (bank : Alg) (digits digest text : List ℕ) (are : (bytes_in digits ≡ Some (spelled digits)) × (length (spelled digits) ≡ digest_len bank))
     (long : length digits ≡ 2 * length digest) (made : (text ≡ encode_lower (take digest_bytes digest)) × IsBytes digest) where
   all_digits : text ≡ encode_lower digest
@@ -224,15 +232,13 @@ module _ (bank : Alg) (digits digest text : List ℕ) (are : (bytes_in digits �
       let most = (four_to_most bank digits are).1 in
       made.0 ∙ ap encode_lower (take_all digest_bytes digest (omega (arith, most, long)))
 
-  pub same_as_made : pointwise nat_eq digits text ≡ true → true ≡ pointwise nat_eq (spelled digits) digest
-  same_as_made same =
-      sym
-      ((bytes_eq-Decides (spelled digits) digest).1
-      (one_digest digits (spelled digits) digest are.0 made.1 ((bytes_eq-Decides digits text).0 same ∙ all_digits)))
-
   pub lower_as_made : pointwise nat_eq (map to_ascii_lowercase digits) text ≡ pointwise nat_eq (spelled digits) digest
   lower_as_made =
       ap (pointwise nat_eq (map to_ascii_lowercase digits)) all_digits ∙ same_digits digits (spelled digits) digest are.0 made.1
+
+  -- without a capital as they stand
+  pub same_as_made : list_any is_ascii_uppercase digits ≡ false → pointwise nat_eq digits text ≡ pointwise nat_eq (spelled digits) digest
+  same_as_made none = ap (λ (d : List ℕ). pointwise nat_eq d text) (sym (stay_lower digits none)) ∙ lower_as_made
 
 -- ---- the first bytes
 

@@ -4,9 +4,9 @@
 //! for each digit, but encodes by a table: so the digits of that digest are made once, and compared.
 
 ghost use Rattle.std.specs.Prelude.{◌≡◌, ◌≤◌, ◌<◌, ◌*◌, ◌||◌, length, map, nat_eq, MatchOption};
-ghost use Rattle.std.specs.Char.{to_ascii_lowercase};
+ghost use Rattle.std.specs.Char.{is_ascii_uppercase, to_ascii_lowercase};
 ghost use Rattle.std.specs.Cmp.Lexicographic.{pointwise};
-ghost use Rattle.std.specs.List.{list_all};
+ghost use Rattle.std.specs.List.{list_all, list_any};
 ghost use Rattle.hex.specs.Hex.{encode_lower, is_hex_digit};
 ghost use Rattle.tpm_types.specs.Limits.{digest_bytes};
 ghost use Rattle.tpm_vouched.specs.Allowed.{is_for};
@@ -49,6 +49,17 @@ fn are_digits(text: &[u8]) -> bool
         are &= byte.is_ascii_hexdigit();
     }
     are
+}
+
+// Whether some are capitals.
+fn has_capitals(digits: &[u8]) -> bool
+    ensures { result ≡ list_any is_ascii_uppercase digits.now }
+{
+    let mut has = false;
+    for digit in digits {
+        has |= digit.is_ascii_uppercase();
+    }
+    has
 }
 
 // Whether the text is these digits in lower case.
@@ -101,10 +112,14 @@ pub struct AllowedLine<'a> {
     register: PcrIndex,
     // Two for each byte, as they stand in the list.
     digits: &'a [u8],
+    // Whether some of them are capitals. Where none is, they are compared as they stand.
+    has_capitals: bool,
 }
 
 impl<'a> Model for AllowedLine<'a> {
     ghost use Rattle.std.specs.Prelude.{◌≡◌, Some, length};
+    ghost use Rattle.std.specs.Char.{is_ascii_uppercase};
+    ghost use Rattle.std.specs.List.{list_any};
     ghost use Rattle.tpm_types.specs.Alg.{digest_len};
     ghost use Rattle.tpm_output.specs.Text.{bytes_in};
     ghost use Rattle.tpm_vouched.specs.declared.allowed.AllowedDigest.{AllowedDigest as Allowed};
@@ -119,7 +134,8 @@ impl<'a> Model for AllowedLine<'a> {
 
     ghost invariant = { λ l.
         (bytes_in l.digits.now ≡ Some (spelled l.digits.now))
-        × (length (spelled l.digits.now) ≡ digest_len l.bank) };
+        × (length (spelled l.digits.now) ≡ digest_len l.bank)
+        × (list_any is_ascii_uppercase l.digits.now ≡ l.has_capitals) };
 }
 
 /// A digest that is looked for, and the register of a bank that it extends.
@@ -190,6 +206,7 @@ impl<'a> AllowedLine<'a> {
             bank,
             register,
             digits,
+            has_capitals: has_capitals(digits),
         })
     }
 
@@ -221,8 +238,13 @@ impl<'a> AllowedLine<'a> {
     fn spells(&self, sought: &Sought<'_>) -> bool
         ensures { result ≡ pointwise nat_eq self.now.digest.1 sought.now.digest.1 }
     {
-        self.digits.len() == 2 * sought.digest.len()
-            && (are_same(self.digits, sought.digits) || is_lower_case(self.digits, sought.digits))
+        if self.digits.len() != 2 * sought.digest.len() {
+            return false;
+        }
+        if self.has_capitals {
+            return is_lower_case(self.digits, sought.digits);
+        }
+        are_same(self.digits, sought.digits)
     }
 
     /// Whether it is the one that is looked for, and for that register.
