@@ -14,6 +14,15 @@ ran() {
     check $?
 }
 
+# piped NAME STATUS LOG WORD..: the same, of words beside which the log comes through a pipe, so that it is read once.
+piped() {
+    name=$1 wanted=$2 whole=$3
+    shift 3
+    : >"$room/err.wanted"
+    cat "$whole" | "$program" "$@" >"$room/out" 2>"$room/err"
+    check $?
+}
+
 # checked NAME STATUS WORD..: the same of `check`.
 checked() {
     checked=$1 status=$2
@@ -301,6 +310,7 @@ if python3 -c pass >"$room/out" 2>&1 && begin_python; then
         case $right,$(tail -n 1 "$room/boot") in 0,*true*) ;; *) right=1 ;; esac
         case $right in 0) echo '{"ok":true}' ;; *) echo '{"ok":false}' ;; esac >>"$room/out.wanted"
         told "$of, and Secure Boot" $right "$whole" $words --secure-boot
+        piped "$of, and Secure Boot, through a pipe" $right "$whole" check - $words --secure-boot --json
     }
     for events in "$logs"/*.events; do
         log=${events%.events}
@@ -331,6 +341,7 @@ if python3 -c pass >"$room/out" 2>&1 && begin_python; then
         { by_python checks/quotes/told.py "$room/quote" matches covers matches && cat "$logs/$log.vouched_objects"; } \
             >"$room/out.wanted"
         ran "the objects of $log beside a quote" 0 events "$logs/$log.log" $words --json
+        piped "the objects of $log beside a quote, through a pipe" 0 "$logs/$log.log" events - $words --json
     done
 
     # compares NAME STATUS LOG NONCE LIST: what is said of a log beside the quote $signed and a list of allowed digests:
@@ -419,6 +430,13 @@ if python3 -c pass >"$room/out" 2>&1 && begin_python; then
     unasked "that lacks a register" "$log.log" matches "lacks sha256 9" matches --nonce 6e6f --require sha256:0,9
     unasked "of which none is required" "$log.log" matches "not compared" matches --nonce 6e6f
     unasked "of another log" "$logs/said.log" matches covers differs --nonce 6e6f --require "$list"
+    # The record of the locality is another, so that register 0 starts otherwise.
+    LC_ALL=C sed 's/\(StartupLocality\)\x00\x03/\1\x00\x04/' "$log.log" >"$room/locality.log"
+    holds "another locality is one byte" [ "$(cmp -l "$log.log" "$room/locality.log" | wc -l)" = 1 ]
+    unasked "of a log of another locality" "$room/locality.log" matches covers differs --nonce 6e6f --require "$list"
+    by_python checks/quotes/told.py --lines "$room/quote" matches any differs >"$room/out.wanted"
+    checked "no list beside a quote of a log of another locality" 1 "$room/locality.log" --attest "$room/quote" \
+        --nonce 6e6f --allow "$room/true"
     printf '%s\n' 'refused 084 at 0' >"$room/out.wanted"
     ran "no records beside what is no quote" 1 events "$log.log" --attest "$logs/worked.log" --nonce 6e6f
     echo 'log Truncated at 211' >"$room/out.wanted"

@@ -2,13 +2,7 @@
 use Rattle.std.proofs.Common.{◌≡◌, ℕ, List, [], ◌∷◌, map, refl, ap, ◌∙◌, inl, inr}
 use Rattle.tpm_types.specs.declared.alg.Alg.{Alg}
 use Rattle.tpm_hmac.specs.Hashes.{digest}
-use Rattle.tpm_hmac.proofs.DigestLengths.{length-digest}
 use Rattle.tpm_hmac.specs.Among.{IsAmong}
-use Rattle.tpm_vouched.proofs.Peeling.{AreLong}
-
-pub long_map : (bank : Alg) (ts : List (List ℕ)) → AreLong bank (map (digest bank) ts)
-long_map bank [] = tt
-long_map bank (t ∷ ts) = (length-digest bank t, long_map bank ts)
 
 module _ (bank : Alg) (P : List ℕ → Type 0) (apart : (x y : List ℕ) → P x → P y → digest bank x ≡ digest bank y → x ≡ y) where
   -- texts with the same hashes, one by one

@@ -3,7 +3,7 @@ use Rattle.std.proofs.Common.{◌≡◌, ℕ, Bool, true, false, eqb, List, [], 
 use Rattle.std.proofs.Common.{inl, inr}
 use Rattle.std.proofs.lemmas.List.{map-append}
 use Rattle.std.proofs.lemmas.List.Elements.{All-head, All-tail}
-use Rattle.std.specs.Prelude.{All, filter_map, nat_eq, option_map, if◌then◌else◌}
+use Rattle.std.specs.Prelude.{◌≢◌, All, filter_map, nat_eq, option_map, if◌then◌else◌}
 use Rattle.std.specs.Cmp.Lexicographic.{pointwise, same_text}
 use Rattle.std.specs.List.{cons_option}
 use Rattle.tpm_types.specs.declared.alg.Alg.TheVariants.{Sha1, Sha256, Sha384}
@@ -12,7 +12,7 @@ use Rattle.tpm_types.specs.Alg.{alg_number, digest_len}
 use Rattle.tpm_hmac.specs.Hashes.{digest}
 use Rattle.tpm_hmac.specs.Among.{IsAmong}
 use Rattle.tpm_hmac.proofs.Among.{among_front, among_later}
-use Rattle.tpm_pcr.specs.Registers.{digests_for}
+use Rattle.tpm_pcr.specs.Registers.{digests_for, extended}
 use Rattle.tpm_log.specs.declared.algorithm_size.AlgorithmSize.TheVariants.{Bank, Other}
 use Rattle.tpm_log.specs.declared.algorithm_size.AlgorithmSize.{AlgorithmSize}
 use Rattle.tpm_event_data.specs.Events.{Shown}
@@ -165,6 +165,32 @@ module _ (bank : Alg) (P : List ℕ → Type 0) (apart : (x y : List ℕ) → P 
       by (Some p) (Some q) hm hn in_m in_n e =
           apart p.text q.text (in_m p.text (inl refl)) (in_n q.text (inl refl)) (sym (hm p refl) ∙ e ∙ hn q refl)
 
+-- ---- the law of a register: its value shows by which digests it was extended, and from which value
+
+-- Texts with P have hashes of their own, and none has a value as its hash with which the register begins.
+module _ (bank : Alg) (q : ℕ) (one other : ReadLog) (P : List ℕ → Type 0)
+    (apart : (x y : List ℕ) → P x → P y → digest bank x ≡ digest bank y → x ≡ y)
+    (behind : (x : List ℕ) → P x → digest bank x ≢ value_before bank q one.records)
+    (other_behind : (x : List ℕ) → P x → digest bank x ≢ value_before bank q other.records)
+  where
+  abbrev values : ReadLog → List (List ℕ)
+  values l = values_hashed bank (value_before bank q l.records) (digests_extended bank q l.records)
+
+  long : (l : ReadLog) → AreLong bank (digests_extended bank q l.records)
+  long l = all_long bank q l.hashes l.records (log_ok l.hashes l.records l.bytes l.spelled)
+
+  extends_to : (l : ReadLog) → value_left bank q l.records ≡ extended bank (value_before bank q l.records) (digests_extended bank q l.records)
+  extends_to l = all_extend bank q l.records (log_timely l.hashes l.records l.bytes l.spelled)
+
+  pub same_digests : ((x : List ℕ) → IsAmong x (values one) → P x) → ((x : List ℕ) → IsAmong x (values other) → P x)
+      → value_left bank q one.records ≡ value_left bank q other.records
+      → (value_before bank q one.records ≡ value_before bank q other.records)
+      × (digests_extended bank q one.records ≡ digests_extended bank q other.records)
+  same_digests in_one in_other left =
+      same_chain bank (value_before bank q one.records) (value_before bank q other.records) P apart behind other_behind
+      (digests_extended bank q one.records) (digests_extended bank q other.records) (long one) (long other) in_one in_other
+      (sym (extends_to one) ∙ left ∙ extends_to other)
+
 pub same_measured : (bank : Alg) (q : ℕ) (one other : ReadLog) → value_left bank q one.records ≡ value_left bank q other.records
     → AreApart bank q one.records other.records → SameMeasured bank q one.records other.records
 same_measured bank q one other left free =
@@ -179,14 +205,10 @@ same_measured bank q one other left free =
     let ts = filter_map text_in (measured bank q a) in
     let us = filter_map text_in (measured bank q b) in
     let P : List ℕ → Type 0 = λ x. IsAmong x (hashed ++ other_hashed) in
-    let both : (begins ≡ other_begins) × (ds ≡ es) =
-    same_chain bank begins other_begins P free.apart free.behind free.other_behind ds es
-    (all_long bank q one.hashes a (log_ok one.hashes a one.bytes one.spelled))
-    (all_long bank q other.hashes b (log_ok other.hashes b other.bytes other.spelled))
+    let both =
+    same_digests bank q one other P free.apart free.behind free.other_behind
     (λ x m. among_front x hashed other_hashed (among_later x ts (values_hashed bank begins ds) m))
-    (λ x m. among_later x hashed other_hashed (among_later x us (values_hashed bank other_begins es) m))
-    (sym (all_extend bank q a (log_timely one.hashes a one.bytes one.spelled)) ∙ left
-    ∙ all_extend bank q b (log_timely other.hashes b other.bytes other.spelled)) in
+    (λ x m. among_later x hashed other_hashed (among_later x us (values_hashed bank other_begins es) m)) left in
     record {
       before = both.0;
       digests = both.1;
