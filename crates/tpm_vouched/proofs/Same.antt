@@ -173,23 +173,23 @@ module _ (bank : Alg) (q : ℕ) (one other : ReadLog) (P : List ℕ → Type 0)
     (behind : (x : List ℕ) → P x → digest bank x ≢ value_before bank q one.records)
     (other_behind : (x : List ℕ) → P x → digest bank x ≢ value_before bank q other.records)
   where
-  abbrev values : ReadLog → List (List ℕ)
-  values l = values_hashed bank (value_before bank q l.records) (digests_extended bank q l.records)
+    abbrev values : ReadLog → List (List ℕ)
+    values l = values_hashed bank (value_before bank q l.records) (digests_extended bank q l.records)
 
-  long : (l : ReadLog) → AreLong bank (digests_extended bank q l.records)
-  long l = all_long bank q l.hashes l.records (log_ok l.hashes l.records l.bytes l.spelled)
+    long : (l : ReadLog) → AreLong bank (digests_extended bank q l.records)
+    long l = all_long bank q l.hashes l.records (log_ok l.hashes l.records l.bytes l.spelled)
 
-  extends_to : (l : ReadLog) → value_left bank q l.records ≡ extended bank (value_before bank q l.records) (digests_extended bank q l.records)
-  extends_to l = all_extend bank q l.records (log_timely l.hashes l.records l.bytes l.spelled)
+    extends_to : (l : ReadLog) → value_left bank q l.records ≡ extended bank (value_before bank q l.records) (digests_extended bank q l.records)
+    extends_to l = all_extend bank q l.records (log_timely l.hashes l.records l.bytes l.spelled)
 
-  pub same_digests : ((x : List ℕ) → IsAmong x (values one) → P x) → ((x : List ℕ) → IsAmong x (values other) → P x)
-      → value_left bank q one.records ≡ value_left bank q other.records
-      → (value_before bank q one.records ≡ value_before bank q other.records)
-      × (digests_extended bank q one.records ≡ digests_extended bank q other.records)
-  same_digests in_one in_other left =
-      same_chain bank (value_before bank q one.records) (value_before bank q other.records) P apart behind other_behind
-      (digests_extended bank q one.records) (digests_extended bank q other.records) (long one) (long other) in_one in_other
-      (sym (extends_to one) ∙ left ∙ extends_to other)
+    pub same_digests : ((x : List ℕ) → IsAmong x (values one) → P x) → ((x : List ℕ) → IsAmong x (values other) → P x)
+        → value_left bank q one.records ≡ value_left bank q other.records
+        → (value_before bank q one.records ≡ value_before bank q other.records)
+        × (digests_extended bank q one.records ≡ digests_extended bank q other.records)
+    same_digests in_one in_other left =
+        same_chain bank (value_before bank q one.records) (value_before bank q other.records) P apart behind other_behind
+        (digests_extended bank q one.records) (digests_extended bank q other.records) (long one) (long other) in_one in_other
+        (sym (extends_to one) ∙ left ∙ extends_to other)
 
 pub same_measured : (bank : Alg) (q : ℕ) (one other : ReadLog) → value_left bank q one.records ≡ value_left bank q other.records
     → AreApart bank q one.records other.records → SameMeasured bank q one.records other.records
