@@ -2,11 +2,9 @@
 
 ghost use Rattle.std.specs.Prelude.{◌≡◌, ◌++◌, IfOk, map, option_map, string_bytes};
 ghost use Rattle.tpm_output.specs.Named.{row_as};
-ghost use Rattle.tpm_show.specs.inner.CommandNames.{listed_as};
-ghost use Rattle.tpm_show.specs.FieldNames.{algorithms, command_in, command_text, is_algorithm, is_handle, name_of};
-ghost use Rattle.tpm_show.specs.FieldNames.{named_of, names_for, number_in, session_types, startup_types, value_name};
+ghost use Rattle.tpm_show.specs.FieldNames.{is_algorithm, is_handle, named_of, names_for, number_in, value_name};
 
-use crate::command_names::{Listed, command_of};
+use crate::command_names::command_of;
 use crate::handle_names::handle_name;
 use std::alloc::{AllocError, Global};
 use tpm_output::named::{Row, look_up};
@@ -132,57 +130,20 @@ fn named_of(kind: &str, number: u32) -> Option<&'static str>
     look_up(names_for(kind), number)
 }
 
-// The name of a number of this type.
-fn name_of(kind: &str, bytes: &[u8]) -> Option<&'static str>
-    ensures { option_map (λ name. name.now) result ≡ name_of kind.now bytes.now }
-{
-    match number_in(bytes) {
-        Some(number) => named_of(kind, number),
-        None => None,
-    }
-}
-
-// The command whose code these bytes are.
-fn command_in(bytes: &[u8]) -> Option<&'static Listed>
-    ensures { option_map (λ c. listed_as c.now) result ≡ command_in bytes.now }
-{
-    match number_in(bytes) {
-        Some(code) => command_of(code),
-        None => None,
-    }
-}
-
-fn name_alone(name: Option<&'static str>) -> Option<ValueName>
-    ensures { option_map (λ name. name.front.now ++ name.name.now) result
-        ≡ option_map (λ name. name.now) name.entry }
-{
-    match name {
-        Some(name) => Some(ValueName { front: "", name }),
-        None => None,
-    }
-}
-
-fn command_text(command: Option<&'static Listed>) -> Option<ValueName>
-    ensures { option_map (λ name. name.front.now ++ name.name.now) result
-        ≡ command_text (option_map (λ c. listed_as c.now) command.entry) }
-{
-    match command {
-        Some(command) => Some(ValueName {
-            front: "TPM_CC_",
-            name: command.name,
-        }),
-        None => None,
-    }
-}
-
 /// The name of a field of this type and these bytes, where Part 2 has one.
 #[tactic(auto, unfolding(crate::specs::FieldNames::value_name))]
 pub(crate) fn value_name(kind: &str, bytes: &[u8]) -> Option<ValueName>
     ensures { option_map (λ name. name.front.now ++ name.name.now) result
         ≡ value_name kind.now bytes.now }
 {
+    let number = number_in(bytes)?;
     if kind == "TPM_CC" {
-        return command_text(command_in(bytes));
+        let command = command_of(number)?;
+        return Some(ValueName {
+            front: "TPM_CC_",
+            name: command.name,
+        });
     }
-    name_alone(name_of(kind, bytes))
+    let name = named_of(kind, number)?;
+    Some(ValueName { front: "", name })
 }
