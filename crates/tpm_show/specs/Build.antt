@@ -15,8 +15,7 @@ use Rattle.tpm_output.specs.declared.status.Status.{Status}
 use Rattle.tpm_output.specs.Text.{bytes_in, bytes_line, refusal_line, not_hexadecimal_line}
 use Rattle.tpm_show.specs.declared.built.Part.TheVariants.{Header, Handles, Sessions, Parameters}
 use Rattle.tpm_show.specs.declared.built.Part.{Part}
-use Rattle.tpm_names.specs.Codes.{meaning_of}
-use Rattle.tpm_show.specs.Headers.{code_behind}
+use Rattle.tpm_show.specs.Headers.{behind_space, code_text}
 
 -- a command, and the texts of its handles, its sessions and its parameters
 pub record CommandParts : Type 0 where
@@ -117,7 +116,7 @@ refused_in place =
     codes "refused in the " ++ (part_name place.part ++ (codes " at " ++ (decimal place.at ++ codes ":")))
 
 abbrev pub refused_remark : Place → (code : ℕ) → List ℕ
-refused_remark place code = refused_in place ++ (code_behind (meaning_of code) code ++ codes "\n")
+refused_remark place code = refused_in place ++ (behind_space (code_text code) ++ codes "\n")
 
 unfoldable pub digits_remark : Part → List ℕ
 digits_remark part = codes "the " ++ (part_name part ++ codes " are not hexadecimal\n")

@@ -8,13 +8,9 @@ use Rattle.tpm_commands.specs.Row.{Field}
 use Rattle.tpm_show.specs.declared.piece.How.TheVariants as how
 use Rattle.tpm_show.specs.declared.piece.Shape.TheVariants as shape
 use Rattle.tpm_show.specs.FieldNames.{value_name}
-use Rattle.tpm_show.specs.Pieces.{Piece, Opens, Closes, Word, Number, Bytes, line_end, list_told, says, words}
+use Rattle.tpm_show.specs.Pieces.{Piece, Opens, Closes, Word, Number, Bytes, line_end, list_told, says, word_told, words}
 
 -- ---- a field
-
-abbrev pub name_told : Option (List ℕ) → List Piece
-name_told None = []
-name_told (Some name) = says how.Behind (text "value_name") (Word name) ∷ []
 
 -- so far in
 unfoldable pub field_begins : (indent : List ℕ) → Field → (bytes : List ℕ) → List Piece
@@ -22,7 +18,7 @@ field_begins indent f bytes = Opens None shape.Object ∷ words indent
     ∷ says how.Alone (text "name") (Word f.name)
     ∷ says how.Behind (text "type") (Word f.type)
     ∷ says how.Behind (text "value") (Bytes bytes)
-    ∷ (name_told (value_name f.type bytes) ++ line_end ∷ [])
+    ∷ (word_told how.Behind (text "value_name") (value_name f.type bytes) ++ line_end ∷ [])
 
 unfoldable pub value_told : (indent : List ℕ) → Field → (bytes : List ℕ) → List Piece
 value_told indent f bytes = field_begins indent f bytes ++ Closes shape.Object ∷ []

@@ -3,36 +3,25 @@ use Rattle.std.specs.Prelude.{ℕ, ◌+◌, List, [], ◌∷◌, ◌++◌, codes
 use Rattle.std.specs.Option.{option_or}
 use Rattle.std.specs.Int.{to_be_bytes, w32}
 use Rattle.tpm_types.specs.Handles.{kind_of}
-use Rattle.tpm_output.specs.Named.{Named, named_in, table_as}
+use Rattle.tpm_output.specs.Named.{named_in, table_as}
 use Rattle.tpm_show.specs.declared.handle_names.TheConstants.{KINDS, PERMANENT}
 use Rattle.tpm_show.specs.declared.piece.How.TheVariants as how
-use Rattle.tpm_show.specs.Pieces.{Value, Word, Number, Bytes, Null, Piece, Says, InLine, line_end, list_told, words}
+use Rattle.tpm_show.specs.Pieces.{Value, Word, Number, Bytes, Null, Piece, Says, InLine, asked_told, line_end, list_told}
+use Rattle.tpm_show.specs.Pieces.{words}
 
 -- ---- names
 
--- TPM_RH (7.4): permanent handles
-abbrev pub permanent_handles : List Named
-permanent_handles = table_as PERMANENT
-
--- TPM_HT (7.2): kinds of handles, by their most significant byte
-abbrev pub handle_kinds : List Named
-handle_kinds = table_as KINDS
-
--- of a permanent handle its own name, and else that of its kind
+-- of a permanent handle its own name (TPM_RH, 7.4), and else that of its kind, by its most significant byte (TPM_HT, 7.2)
 unfoldable pub handle_named : ℕ → Option (List ℕ)
-handle_named handle = option_or (named_in permanent_handles handle) (named_in handle_kinds (kind_of handle))
+handle_named handle = option_or (named_in (table_as PERMANENT) handle) (named_in (table_as KINDS) (kind_of handle))
 
 -- ---- what is told of handles
-
-abbrev pub name_in_line : Option (List ℕ) → List Piece
-name_in_line None = []
-name_in_line (Some name) = InLine how.Asked (Word name) ∷ []
 
 -- In a line it has its number, and its name.
 unfoldable pub handle_told : ℕ → ℕ → List Piece
 handle_told i handle = words (codes "handle") ∷ InLine how.Behind (Number i)
     ∷ Says how.Behind None (Bytes (to_be_bytes w32 handle))
-    ∷ (name_in_line (handle_named handle) ++ line_end ∷ [])
+    ∷ (asked_told (handle_named handle) ++ line_end ∷ [])
 
 abbrev pub handles_from : ℕ → List ℕ → List Piece
 handles_from i [] = []

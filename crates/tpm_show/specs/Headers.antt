@@ -1,22 +1,20 @@
 -- The header of a frame, whatever a profile has of it, and what is told of it (Part 1, "Command/Response Structure";
 -- this profile).
 use Rattle.std.specs.Prelude.{ℕ, List, [], ◌∷◌, ◌++◌, length, take, nat_lt, codes, Option, Some}
-use Rattle.std.specs.Prelude.{None, Result, Ok, Err, if◌then◌else◌}
+use Rattle.std.specs.Prelude.{None, Result, Ok, Err, if◌then◌else◌, option_map}
 use Rattle.std.specs.Int.{to_be_bytes, w16, w32}
 use Rattle.tpm_wire.specs.declared.refusal.Refusal.{Refusal}
 use Rattle.tpm_wire.specs.Token.{Here, at_start}
 use Rattle.tpm_wire.specs.Layout.Form.{field, done}
 use Rattle.tpm_wire.specs.Reading.{read}
 use Rattle.tpm_wire.specs.Buffers.{Layout, any_number}
-use Rattle.tpm_output.specs.Named.{Named, named_in, table_as}
+use Rattle.tpm_output.specs.Named.{named_in, table_as}
 use Rattle.tpm_show.specs.declared.frame_header.TheConstants.{TAG_NAMES}
 use Rattle.tpm_show.specs.declared.frame_header.FrameHeader.{FrameHeader}
 use Rattle.tpm_show.specs.CommandNames.{Listed, command_of}
 use Rattle.tpm_names.specs.Codes.{code_name, meaning_of}
-use Rattle.tpm_names.specs.Meanings.{Meaning}
-use Rattle.tpm_show.specs.declared.piece.How.{How}
 use Rattle.tpm_show.specs.declared.piece.How.TheVariants as how
-use Rattle.tpm_show.specs.Pieces.{Value, Word, Number, Code, Bytes, Piece, InLine, line_end, says, words}
+use Rattle.tpm_show.specs.Pieces.{Value, Word, Number, Code, Bytes, Piece, line_end, says, word_told, words}
 
 -- ---- ten bytes
 
@@ -40,41 +38,31 @@ header_in bytes =
 -- ---- names
 
 -- TPM_ST (Part 2, 6.9)
-abbrev pub tag_names : List Named
-tag_names = table_as TAG_NAMES
+unfoldable pub tag_named : ℕ → Option (List ℕ)
+tag_named tag = named_in (table_as TAG_NAMES) tag
 
 -- the name of a command of the library, or the number of any other
 abbrev pub name_or_number : Option Listed → ℕ → Value
 name_or_number (Some c) code = Word c.name
 name_or_number None code = Bytes (to_be_bytes w32 code)
 
--- ---- the name of a response code, where it has one
+-- that of a response code, where it has one
+abbrev pub code_text : ℕ → Option (List ℕ)
+code_text code = option_map (code_name code) (meaning_of code)
 
-abbrev pub code_behind : Option Meaning → ℕ → List ℕ
-code_behind None code = []
-code_behind (Some m) code = codes " " ++ code_name code m
-
-abbrev pub code_told : How → (member : List ℕ) → Option Meaning → ℕ → List Piece
-code_told h member None code = []
-code_told h member (Some m) code = says h member (Word (code_name code m)) ∷ []
-
-abbrev pub code_in_line : Option Meaning → ℕ → List Piece
-code_in_line None code = []
-code_in_line (Some m) code = InLine how.Asked (Word (code_name code m)) ∷ []
+abbrev pub behind_space : (name : Option (List ℕ)) → List ℕ
+behind_space None = []
+behind_space (Some name) = codes " " ++ name
 
 -- ---- what is told of a header
 
 abbrev pub command_told : ℕ → Piece
 command_told code = says how.Behind (codes "command") (name_or_number (command_of code) code)
 
-abbrev pub tag_name : Option (List ℕ) → List Piece
-tag_name None = []
-tag_name (Some name) = says how.Asked (codes "tag_name") (Word name) ∷ []
-
 unfoldable pub size_and_tag : FrameHeader → List Piece
 size_and_tag h = says how.Under (codes "size") (Number h.size)
     ∷ says how.Under (codes "tag") (Bytes (to_be_bytes w16 h.tag))
-    ∷ tag_name (named_in tag_names h.tag)
+    ∷ word_told how.Asked (codes "tag_name") (tag_named h.tag)
 
 unfoldable pub command_head : FrameHeader → List Piece
 command_head h = words (codes "command") ∷ command_told h.code ∷ (size_and_tag h
@@ -88,4 +76,4 @@ answered (Some code) = command_told code ∷ []
 unfoldable pub reply_head : (command : Option ℕ) → FrameHeader → List Piece
 reply_head command h = words (codes "reply") ∷ (answered command ++ (size_and_tag h
     ++ says how.Under (codes "code") (Code h.code)
-    ∷ (code_told how.Behind (codes "code_name") (meaning_of h.code) h.code ++ line_end ∷ [])))
+    ∷ (word_told how.Behind (codes "code_name") (code_text h.code) ++ line_end ∷ [])))

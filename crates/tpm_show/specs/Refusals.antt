@@ -18,11 +18,10 @@ use Rattle.tpm_show.specs.declared.frame_header.FrameHeader.{FrameHeader}
 use Rattle.tpm_show.specs.Areas.{command_rest, response_rest}
 use Rattle.tpm_show.specs.Beyond.{is_beyond}
 use Rattle.tpm_show.specs.CommandNames.{command_of}
-use Rattle.tpm_names.specs.Codes.{meaning_of}
 use Rattle.tpm_show.specs.declared.piece.How.TheVariants as how
-use Rattle.tpm_show.specs.Headers.{code_in_line, code_told, command_head, header_in, reply_head}
+use Rattle.tpm_show.specs.Headers.{code_text, command_head, header_in, reply_head}
 use Rattle.tpm_show.specs.Library.{command_areas_told, library_command, library_response, response_areas_told}
-use Rattle.tpm_show.specs.Pieces.{Code, Number, Piece, line_end, says, words}
+use Rattle.tpm_show.specs.Pieces.{Code, Number, Piece, asked_told, line_end, says, word_told, words}
 
 -- bytes that are taken for a command, or for a response to this one
 pub data Buffer : Type 0 where
@@ -79,9 +78,8 @@ verdict_name true = codes "beyond"
 -- a response code, its name where Part 2 has one (6.6), which ends the line, and how many bytes precede the fault
 unfoldable pub refusal_told : (beyond : Bool) → Refusal → List Piece
 refusal_told beyond refusal = words (verdict beyond) ∷ says how.Behind (verdict_name beyond) (Code refusal.code)
-    ∷ (code_told how.Nowhere (codes "fault") (meaning_of refusal.code) refusal.code
-    ++ says how.Under (codes "at") (Number refusal.at)
-    ∷ (code_in_line (meaning_of refusal.code) refusal.code ++ line_end ∷ []))
+    ∷ (word_told how.Nowhere (codes "fault") (code_text refusal.code)
+    ++ says how.Under (codes "at") (Number refusal.at) ∷ (asked_told (code_text refusal.code) ++ line_end ∷ []))
 
 abbrev pub refused_told : Buffer → Refusal → List Piece
 refused_told buffer refusal = refusal_told (is_buffer_beyond buffer refusal) refusal ++ library_told buffer

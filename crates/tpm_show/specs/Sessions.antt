@@ -11,7 +11,7 @@ use Rattle.tpm_show.specs.declared.sessions.TheConstants.{ATTRIBUTES}
 use Rattle.tpm_show.specs.Bits.{bits_set}
 use Rattle.tpm_show.specs.HandleNames.{handle_named}
 use Rattle.tpm_show.specs.Pieces.{Word, Number, Bytes, Piece, Says, InLine, Opens, Closes, line_end, list_told, says}
-use Rattle.tpm_show.specs.Pieces.{words}
+use Rattle.tpm_show.specs.Pieces.{word_told, words}
 
 -- a session, whose handle only a command's has
 pub record ShownSession : Type 0 where
@@ -38,14 +38,11 @@ attributes_set attributes = bits_set attribute_names attributes
 
 -- ---- what is told of a session
 
-abbrev pub name_told : Option (List ℕ) → List Piece
-name_told None = []
-name_told (Some name) = says how.Asked (codes "session_name") (Word name) ∷ []
-
 abbrev pub handle_told : Option ℕ → List Piece
 handle_told None = []
 handle_told (Some handle) =
-    says how.Behind (codes "session") (Bytes (to_be_bytes w32 handle)) ∷ name_told (handle_named handle)
+    says how.Behind (codes "session") (Bytes (to_be_bytes w32 handle))
+    ∷ word_told how.Asked (codes "session_name") (handle_named handle)
 
 -- the names of bits, with commas between them
 abbrev pub names_from : How → List Named → List Piece

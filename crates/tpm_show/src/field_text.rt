@@ -1,9 +1,10 @@
 //! What is told of a field of a buffer.
 
-ghost use Rattle.std.specs.Prelude.{◌≡◌, ◌++◌, OnOk, flat_map};
+ghost use Rattle.std.specs.Prelude.{◌≡◌, ◌++◌, OnOk, codes, flat_map};
 ghost use Rattle.tpm_show.specs.FieldNames.{value_name};
-ghost use Rattle.tpm_show.specs.FieldText.{field_begins, name_told, number_told, structure_begins, structure_ends};
-ghost use Rattle.tpm_show.specs.FieldText.{value_told};
+ghost use Rattle.tpm_show.specs.FieldText.{field_begins, number_told, structure_begins, structure_ends, value_told};
+ghost use Rattle.tpm_show.specs.Pieces.{word_told};
+ghost use Rattle.tpm_show.specs.declared.piece.How.TheVariants.{Behind};
 
 use crate::field::Field;
 use crate::field_names::value_name;
@@ -13,7 +14,7 @@ use tpm_output::text::Pushed;
 
 fn tell_value_name<T: Teller>(teller: &mut T, kind: &str, bytes: &[u8]) -> Pushed
     ensures { OnOk result (T.told teller.new ≡ T.told teller.old
-        ++ flat_map T.marks (name_told (value_name kind.now bytes.now))) }
+        ++ flat_map T.marks (word_told Behind (codes "value_name") (value_name kind.now bytes.now))) }
 {
     let Some(name) = value_name(kind, bytes) else {
         return Ok(());

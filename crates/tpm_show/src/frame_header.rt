@@ -2,16 +2,16 @@
 
 ghost use Rattle.std.specs.Prelude.{◌≡◌, ◌++◌, IfOk, OnOk, flat_map, option_map, string_bytes};
 ghost use Rattle.tpm_wire.specs.Buffers.{Takes};
-ghost use Rattle.tpm_output.specs.Named.{named_in};
-ghost use Rattle.tpm_names.specs.Codes.{code_name, meaning_of};
+ghost use Rattle.tpm_names.specs.Codes.{code_name};
 ghost use Rattle.tpm_names.specs.Meanings.{meaning_as};
-ghost use Rattle.tpm_show.specs.Headers.{answered, code_behind, code_in_line, code_told, command_head, command_told};
-ghost use Rattle.tpm_show.specs.Headers.{frame_header, header_in, reply_head, size_and_tag, tag_name, tag_names};
+ghost use Rattle.tpm_show.specs.Headers.{answered, behind_space, code_text, command_head, command_told, frame_header};
+ghost use Rattle.tpm_show.specs.Headers.{header_in, reply_head, size_and_tag, tag_named};
+ghost use Rattle.tpm_show.specs.Pieces.{asked_told, word_told};
 
 use crate::command_names::command_of;
 use crate::explained::push_subject;
 use crate::piece::{How, LINE_END, Piece, Value, in_line, says};
-use crate::teller::{Teller, tell_pieces};
+use crate::teller::{Teller, tell_pieces, tell_word};
 use std::alloc::{AllocError, Global};
 use tpm_names::codes::code_meaning;
 use tpm_names::meaning::Meaning;
@@ -78,7 +78,7 @@ fn push_meaning_name(text: &mut String, code: u32, meaning: &Meaning) -> Pushed
 #[tactic(auto, using(std::proofs::Common::append_assoc))]
 pub(crate) fn push_code_name(text: &mut String, code: u32) -> Pushed
     ensures { OnOk result
-        (string_bytes text.new ≡ string_bytes text.old ++ code_behind (meaning_of code) code) }
+        (string_bytes text.new ≡ string_bytes text.old ++ behind_space (code_text code)) }
 {
     let Some(meaning) = code_meaning(code) else {
         return Ok(());
@@ -98,7 +98,7 @@ fn meaning_name(alloc: Global, code: u32, meaning: &Meaning) -> Result<String, A
 /// Tells the name of a response code under this name, where it has one.
 pub(crate) fn tell_code_name<T: Teller>(teller: &mut T, how: How, member: &str, code: u32) -> Pushed
     ensures { OnOk result (T.told teller.new ≡ T.told teller.old
-        ++ flat_map T.marks (code_told how member.now (meaning_of code) code)) }
+        ++ flat_map T.marks (word_told how member.now (code_text code))) }
 {
     let Some(meaning) = code_meaning(code) else {
         return Ok(());
@@ -110,7 +110,7 @@ pub(crate) fn tell_code_name<T: Teller>(teller: &mut T, how: How, member: &str, 
 /// Tells the same in a line alone, where names are asked for.
 pub(crate) fn tell_code_in_line<T: Teller>(teller: &mut T, code: u32) -> Pushed
     ensures { OnOk result (T.told teller.new
-        ≡ T.told teller.old ++ flat_map T.marks (code_in_line (meaning_of code) code)) }
+        ≡ T.told teller.old ++ flat_map T.marks (asked_told (code_text code))) }
 {
     let Some(meaning) = code_meaning(code) else {
         return Ok(());
@@ -121,20 +121,11 @@ pub(crate) fn tell_code_in_line<T: Teller>(teller: &mut T, code: u32) -> Pushed
 
 // ---- a header
 
+#[tactic(auto, unfolding(crate::specs::Headers::tag_named))]
 fn tag_name(tag: u16) -> Option<&'static str>
-    ensures { option_map (λ name. name.now) result ≡ named_in tag_names tag }
+    ensures { option_map (λ name. name.now) result ≡ tag_named tag }
 {
     look_up(&TAG_NAMES, tag as u32)
-}
-
-fn tell_tag_name<T: Teller>(teller: &mut T, tag: u16) -> Pushed
-    ensures { OnOk result (T.told teller.new
-        ≡ T.told teller.old ++ flat_map T.marks (tag_name (named_in tag_names tag))) }
-{
-    match tag_name(tag) {
-        Some(name) => teller.tell(&says!(Asked "tag_name" Word name)),
-        None => Ok(()),
-    }
 }
 
 #[tactic(auto, using(crate::proofs::Pieces::pieces), unfolding(crate::specs::Headers::size_and_tag))]
@@ -145,7 +136,7 @@ fn tell_size_and_tag<T: Teller>(teller: &mut T, header: &FrameHeader) -> Pushed
     let FrameHeader { tag, size, .. } = *header;
     tell_pieces!(teller; says!(Under "size" Number u64::from(size)),
         says!(Under "tag" Bytes &tag.to_be_bytes()))?;
-    tell_tag_name(teller, tag)
+    tell_word(teller, How::Asked, "tag_name", tag_name(tag))
 }
 
 // Tells the name of a command of the library, or the number of any other.

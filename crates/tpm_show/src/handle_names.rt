@@ -2,10 +2,9 @@
 
 ghost use Rattle.std.specs.Prelude.{◌≡◌, ◌++◌, OnOk, flat_map, map, option_map};
 ghost use Rattle.tpm_show.specs.HandleNames.{handle_name, handle_named, handle_told, handles_from, handles_told};
-ghost use Rattle.tpm_show.specs.HandleNames.{name_in_line};
 
 use crate::piece::{How, LINE_END, Piece, Shape, Value, in_line};
-use crate::teller::{Teller, tell_pieces};
+use crate::teller::{Teller, tell_asked, tell_pieces};
 use tpm_output::named::{Row, look_up};
 use tpm_output::names;
 use tpm_output::text::Pushed;
@@ -71,17 +70,6 @@ pub(crate) fn handle_name(handle: u32) -> Option<&'static str>
 
 // ---- what is told of them
 
-// Tells the name of a handle in a line alone.
-fn tell_name_in_line<T: Teller>(teller: &mut T, handle: u32) -> Pushed
-    ensures { OnOk result (T.told teller.new
-        ≡ T.told teller.old ++ flat_map T.marks (name_in_line (handle_named handle))) }
-{
-    match handle_name(handle) {
-        Some(name) => teller.tell(&in_line!(Asked Word name)),
-        None => Ok(()),
-    }
-}
-
 // Tells a handle, in a line of its own with its number and its name.
 #[tactic(auto, using(crate::proofs::Pieces::pieces), unfolding(crate::specs::HandleNames::handle_told))]
 fn tell_handle<T: Teller>(teller: &mut T, i: usize, handle: u32) -> Pushed
@@ -90,7 +78,7 @@ fn tell_handle<T: Teller>(teller: &mut T, i: usize, handle: u32) -> Pushed
 {
     tell_pieces!(teller; in_line!(Alone Word "handle"), in_line!(Behind Number i as u64),
         Piece::Says(How::Behind, None, Value::Bytes(&handle.to_be_bytes())))?;
-    tell_name_in_line(teller, handle)?;
+    tell_asked(teller, handle_name(handle))?;
     teller.tell(&LINE_END)
 }
 

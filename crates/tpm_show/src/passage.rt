@@ -1,7 +1,9 @@
 //! Where a frame stands among the packets of a network.
 
-ghost use Rattle.std.specs.Prelude.{◌≡◌, ◌++◌, IfOk, OnOk, flat_map, string_bytes};
-ghost use Rattle.tpm_show.specs.Passages.{packet_told, passage_told, time_text, time_told};
+ghost use Rattle.std.specs.Prelude.{◌≡◌, ◌++◌, IfOk, OnOk, codes, flat_map, option_map, string_bytes};
+ghost use Rattle.tpm_show.specs.Passages.{packet_told, passage_told, time_text};
+ghost use Rattle.tpm_show.specs.Pieces.{word_told};
+ghost use Rattle.tpm_show.specs.declared.piece.How.TheVariants.{Under};
 
 use crate::piece::{LINE_END, in_line, says};
 use crate::teller::{Teller, tell_pieces};
@@ -41,7 +43,8 @@ fn time_text(alloc: Global, time: u128) -> Result<String, AllocError>
 
 fn tell_time<T: Teller>(teller: &mut T, time: Option<u128>) -> Pushed
     ensures { OnOk result
-        (T.told teller.new ≡ T.told teller.old ++ flat_map T.marks (time_told time)) }
+        (T.told teller.new ≡ T.told teller.old
+        ++ flat_map T.marks (word_told Under (codes "time") (option_map time_text time))) }
 {
     let Some(time) = time else {
         return Ok(());

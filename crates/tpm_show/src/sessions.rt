@@ -4,8 +4,7 @@ ghost use Rattle.std.specs.Prelude.{◌≡◌, ◌++◌, ◌<◌, List, OnOk, fl
 ghost use Rattle.std.specs.List.{AllByRecursion};
 ghost use Rattle.tpm_output.specs.Named.{row_as};
 ghost use Rattle.tpm_show.specs.Bits.{bits_set};
-ghost use Rattle.tpm_show.specs.HandleNames.{handle_named};
-ghost use Rattle.tpm_show.specs.Sessions.{ShownSession, attributes_set, attributes_told, handle_told, name_told};
+ghost use Rattle.tpm_show.specs.Sessions.{ShownSession, attributes_set, attributes_told, handle_told};
 ghost use Rattle.tpm_show.specs.Sessions.{names_from, session_begins, session_ends, session_told, sessions_from};
 ghost use Rattle.tpm_show.specs.Sessions.{sessions_told};
 ghost use Rattle.tpm_show.specs.declared.piece.How.TheVariants.{Asked};
@@ -13,7 +12,7 @@ ghost use Rattle.tpm_show.specs.declared.piece.How.TheVariants.{Asked};
 use crate::bits::is_set;
 use crate::handle_names::handle_name;
 use crate::piece::{How, LINE_END, Piece, Shape, Value, in_line, says};
-use crate::teller::{Teller, tell_pieces};
+use crate::teller::{Teller, tell_pieces, tell_word};
 use std::marker::Model;
 use tpm_buffer::{Areas, AuthRef, ReplyAreas};
 use tpm_output::named::Row;
@@ -140,16 +139,7 @@ impl HasSessions for ReplyAreas<'_> {
 
 // ---- a session
 
-fn tell_name<T: Teller>(teller: &mut T, handle: u32) -> Pushed
-    ensures { OnOk result (T.told teller.new
-        ≡ T.told teller.old ++ flat_map T.marks (name_told (handle_named handle))) }
-{
-    match handle_name(handle) {
-        Some(name) => teller.tell(&says!(Asked "session_name" Word name)),
-        None => Ok(()),
-    }
-}
-
+#[tactic(auto, using(crate::proofs::Pieces::pieces))]
 fn tell_handle<T: Teller>(teller: &mut T, handle: Option<u32>) -> Pushed
     ensures { OnOk result
         (T.told teller.new ≡ T.told teller.old ++ flat_map T.marks (handle_told handle)) }
@@ -159,7 +149,7 @@ fn tell_handle<T: Teller>(teller: &mut T, handle: Option<u32>) -> Pushed
     };
     let bytes = handle.to_be_bytes();
     teller.tell(&says!(Behind "session" Bytes &bytes))?;
-    tell_name(teller, handle)
+    tell_word(teller, How::Asked, "session_name", handle_name(handle))
 }
 
 // Tells the names of the bits of the table that are set.

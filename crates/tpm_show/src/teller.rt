@@ -1,10 +1,10 @@
 //! What takes that which is told of a frame, a piece at a time.
 
-ghost use Rattle.std.specs.Prelude.{◌≡◌, ◌++◌, List, OnOk, flat_map, map};
-ghost use Rattle.tpm_show.specs.Pieces.{Piece};
+ghost use Rattle.std.specs.Prelude.{◌≡◌, ◌++◌, List, OnOk, flat_map, map, option_map};
+ghost use Rattle.tpm_show.specs.Pieces.{Piece, asked_told, word_told};
 ghost use Rattle.tpm_show.specs.inner.Pieces.{as_piece};
 
-use crate::piece::Piece as PieceInCode;
+use crate::piece::{How, Piece as PieceInCode, Value, in_line};
 use std::alloc::Global;
 use tpm_output::text::Pushed;
 
@@ -37,6 +37,35 @@ pub(crate) fn tell_all<T: Teller>(teller: &mut T, pieces: &[PieceInCode<'_>]) ->
         teller.tell(piece)?;
     }
     Ok(())
+}
+
+/// Tells a text under a name, where there is one.
+#[tactic(auto, using(crate::proofs::Pieces::pieces))]
+pub(crate) fn tell_word<T: Teller>(
+    teller: &mut T,
+    how: How,
+    name: &str,
+    word: Option<&str>,
+) -> Pushed
+    ensures { OnOk result (T.told teller.new ≡ T.told teller.old ++ flat_map T.marks
+        (word_told how name.now (option_map (λ w. w.now) word.entry))) }
+{
+    match word {
+        Some(word) => teller.tell(&PieceInCode::Says(how, Some(name), Value::Word(word))),
+        None => Ok(()),
+    }
+}
+
+/// Tells a text in a line alone, where there is one and names are asked for.
+#[tactic(auto, using(crate::proofs::Pieces::pieces))]
+pub(crate) fn tell_asked<T: Teller>(teller: &mut T, word: Option<&str>) -> Pushed
+    ensures { OnOk result (T.told teller.new ≡ T.told teller.old ++ flat_map T.marks
+        (asked_told (option_map (λ w. w.now) word.entry))) }
+{
+    match word {
+        Some(word) => teller.tell(&in_line!(Asked Word word)),
+        None => Ok(()),
+    }
 }
 
 /// Tells pieces one behind the other, as `tell_pieces!(teller; says!(Alone "fault" Word fault), LINE_END)`.
