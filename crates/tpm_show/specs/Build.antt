@@ -15,6 +15,8 @@ use Rattle.tpm_output.specs.declared.status.Status.{Status}
 use Rattle.tpm_output.specs.Text.{bytes_in, bytes_line, refusal_line, not_hexadecimal_line}
 use Rattle.tpm_show.specs.declared.built.Part.TheVariants.{Header, Handles, Sessions, Parameters}
 use Rattle.tpm_show.specs.declared.built.Part.{Part}
+use Rattle.tpm_show.specs.declared.built.Lengths.{Lengths}
+use Rattle.tpm_show.specs.declared.built.Place.{Place}
 use Rattle.tpm_show.specs.Headers.{behind_space, code_text}
 
 -- a command, and the texts of its handles, its sessions and its parameters
@@ -30,11 +32,6 @@ part_of text = if bytes_eq text (codes "-") then Some [] else bytes_in text
 
 -- ---- which part a place of the buffer is in
 
--- how many bytes there are of the handles and of the sessions
-pub record Lengths : Type 0 where
-  pub handles : ℕ
-  pub sessions : ℕ
-
 -- how many bytes precede the sessions, whose size stands before them, and the parameters (Part 1, "Command/Response
 -- Structure")
 abbrev pub sessions_at : Lengths → ℕ
@@ -44,10 +41,6 @@ abbrev pub parameters_at : Lengths → ℕ
 parameters_at l = if l.sessions == 0 then 10 + l.handles else sessions_at l + l.sessions
 
 -- a part, and how many bytes of it precede the place
-pub record Place : Type 0 where
-  pub part : Part
-  pub at : ℕ
-
 abbrev pub in_part : Part → ℕ → Place
 in_part part at = record { part = part; at = at }
 

@@ -6,7 +6,7 @@ ghost use Rattle.tpm_output.specs.Faults.{FailsByMemoryOrWrite};
 ghost use Rattle.tpm_show.specs.Build.{part_of, Becomes, NoDigits, OfBytes, OfParts, Outcome, RefusedFor, Spelled};
 ghost use Rattle.tpm_show.specs.Build.{digits_remark, parameters_at, part_name, place_of, refused_in, refused_remark};
 ghost use Rattle.tpm_show.specs.Build.{remark_of, status_of, text_of};
-ghost use Rattle.tpm_show.specs.inner.Building.{lengths_as, place_as, TextOf};
+ghost use Rattle.tpm_show.specs.inner.Building.{TextOf};
 
 use crate::frame_header::push_code_name;
 use std::alloc::{AllocError, Global};
@@ -64,7 +64,7 @@ struct Lengths {
 // How many bytes precede the parameters.
 fn parameters_at(lengths: Lengths) -> usize
     requires { lengths.handles + lengths.sessions ≤ 4096 }
-    ensures { result ≡ parameters_at (lengths_as lengths) }
+    ensures { result ≡ parameters_at lengths }
 {
     if lengths.sessions == 0 {
         10 + lengths.handles
@@ -75,7 +75,7 @@ fn parameters_at(lengths: Lengths) -> usize
 
 fn place_of(lengths: Lengths, at: usize) -> Place
     requires { lengths.handles + lengths.sessions ≤ 4096 }
-    ensures { place_as result ≡ place_of (lengths_as lengths) at }
+    ensures { result ≡ place_of lengths at }
 {
     let sessions_at = 14 + lengths.handles;
     let parameters_at = parameters_at(lengths);
@@ -134,7 +134,7 @@ fn part_name(part: Part) -> &'static str
 #[tactic(auto, unfolding(crate::specs::Build::refused_in))]
 fn push_refused_in(text: &mut String, place: Place) -> Pushed
     ensures { OnOk result
-        (string_bytes text.new ≡ string_bytes text.old ++ refused_in (place_as place)) }
+        (string_bytes text.new ≡ string_bytes text.old ++ refused_in place) }
 {
     let part = part_name(place.part);
     let at = place.at;
@@ -143,7 +143,7 @@ fn push_refused_in(text: &mut String, place: Place) -> Pushed
 
 fn push_refused_remark(text: &mut String, place: Place, code: u32) -> Pushed
     ensures { OnOk result
-        (string_bytes text.new ≡ string_bytes text.old ++ refused_remark (place_as place) code) }
+        (string_bytes text.new ≡ string_bytes text.old ++ refused_remark place code) }
 {
     push_refused_in(text, place)?;
     push_code_name(text, code)?;
@@ -176,7 +176,7 @@ fn spelled(alloc: Global, bytes: &[u8]) -> Result<BuiltText, AllocError>
 }
 
 fn refused(alloc: Global, refusal: &Refusal, place: Place) -> Result<BuiltText, AllocError>
-    ensures { IfOk result (λ b. TextOf b (RefusedFor refusal.now (place_as place))) }
+    ensures { IfOk result (λ b. TextOf b (RefusedFor refusal.now place)) }
 {
     let mut text = String::new(alloc);
     push_refusal(&mut text, refusal)?;
@@ -205,7 +205,7 @@ fn no_digits(alloc: Global, part: Part) -> Result<BuiltText, AllocError>
 
 fn of_buffer(alloc: Global, lengths: Lengths, bytes: &[u8]) -> Result<BuiltText, AllocError>
     requires { lengths.handles + lengths.sessions ≤ 4096 }
-    ensures { IfOk result (λ b. (o : Outcome) × OfBytes (lengths_as lengths) bytes.now o × TextOf b o) }
+    ensures { IfOk result (λ b. (o : Outcome) × OfBytes lengths bytes.now o × TextOf b o) }
 {
     match decode_command(bytes) {
         Ok(_) => spelled(alloc, bytes),

@@ -1,15 +1,7 @@
 -- What becomes of the parts of a command, as the program has it.
 use Rattle.std.specs.Prelude.{◌≡◌, string_bytes}
 use Rattle.tpm_show.specs.declared.built.BuiltText.{BuiltText}
-use Rattle.tpm_show.specs.declared.built.Lengths.{Lengths as RustLengths}
-use Rattle.tpm_show.specs.declared.built.Place.{Place as RustPlace}
-use Rattle.tpm_show.specs.Build.{Lengths, Outcome, Place, in_part, remark_of, status_of, text_of}
-
-abbrev pub lengths_as : RustLengths → Lengths
-lengths_as l = record { handles = l.handles; sessions = l.sessions }
-
-abbrev pub place_as : RustPlace → Place
-place_as p = in_part p.part p.at
+use Rattle.tpm_show.specs.Build.{Outcome, remark_of, status_of, text_of}
 
 -- the status, the text and the remark of it
 abbrev pub TextOf : BuiltText → Outcome → Type 0
