@@ -1,5 +1,5 @@
 -- Captures that are told one part after the other.
-use Rattle.std.proofs.Common.{◌≡◌, ℕ, ◌+◌, ◌<◌, ◌≤◌, List, [], ◌∷◌, ◌++◌, length, map, take, Option, Some, None}
+use Rattle.std.proofs.Common.{◌≡◌, ℕ, ◌+◌, ◌<◌, ◌≤◌, List, [], ◌∷◌, ◌++◌, fold, length, map, take, Option, Some, None}
 use Rattle.std.proofs.Common.{refl, sym, ap, subst, ◌∙◌, inl, inr, arith, append_assoc, length-take-le}
 use Rattle.std.proofs.lemmas.Bool.{cases_lt, lt-ltb}
 use Rattle.std.proofs.lemmas.List.{append-nil, take_all}
@@ -11,8 +11,8 @@ use Rattle.tpm_output.specs.Status.{both}
 use Rattle.tpm_show.specs.declared.telling.Telling.{Telling}
 use Rattle.tpm_show.specs.declared.capture.Capture.{Capture}
 use Rattle.tpm_show.specs.Capture.{CaptureLine, CapturePlace, start, behind, told_in, line_of, most_line, most_bytes, without_blanks}
-use Rattle.tpm_show.specs.Capture.{TellsLine, TellsFrom, TellsCapture, TellsEnded, ReadsAll}
-use Rattle.tpm_show.specs.inner.Capturing.{place, behind_all, capture_line, TellsNext, TellsStep}
+use Rattle.tpm_show.specs.Capture.{TellsEach, TellsLine, TellsFrom, TellsCapture, TellsEnded, ReadsAll}
+use Rattle.tpm_show.specs.inner.Capturing.{place, capture_line, TellsNext, TellsStep}
 use Rattle.tpm_show.specs.Capture as specs
 
 -- ---- statuses
@@ -25,28 +25,25 @@ pub both_done : (a : Status) → both a Done ≡ a
 both_done Done = refl
 both_done Refused = refl
 
--- ---- lines that are told
+-- ---- what is told one after the other
 
-pub behind_all-append : (p : CapturePlace) (xs ys : List CaptureLine) → behind_all p (xs ++ ys) ≡ behind_all (behind_all p xs) ys
-behind_all-append p [] ys = refl
-behind_all-append p (x ∷ xs) ys = behind_all-append (behind p x) xs ys
+module _ {A : Type 0} (next : CapturePlace → A → CapturePlace) (Tells : CapturePlace → A → Status → List ℕ → Type 0) where
+  pub tells_both : (p : CapturePlace) (xs ys : List A) (s t : Status) (a b : List ℕ) → TellsEach next Tells p xs s a
+      → TellsEach next Tells (fold next p xs) ys t b → TellsEach next Tells p (xs ++ ys) (both s t) (a ++ b)
+  tells_both p [] ys s t a b f g = rw (f.0, f.1) g
+  tells_both p (x ∷ xs) ys s t a b f g = (
+    f.0,
+    f.1,
+    both f.2 t,
+    f.3 ++ b,
+    f.4,
+    tells_both (next p x) xs ys f.2 t f.3 b f.5 g,
+    rw f.6 (both_assoc f.0 f.2 t),
+    rw f.7 (append_assoc f.1 f.3 b),
+  )
 
-pub tells_both : (p : CapturePlace) (xs ys : List CaptureLine) (s t : Status) (a b : List ℕ) → TellsFrom p xs s a → TellsFrom (behind_all p xs) ys t b
-    → TellsFrom p (xs ++ ys) (both s t) (a ++ b)
-tells_both p [] ys s t a b f g = rw (f.0, f.1) g
-tells_both p (x ∷ xs) ys s t a b f g = (
-  f.0,
-  f.1,
-  both f.2 t,
-  f.3 ++ b,
-  f.4,
-  tells_both (behind p x) xs ys f.2 t f.3 b f.5 g,
-  rw f.6 (both_assoc f.0 f.2 t),
-  rw f.7 (append_assoc f.1 f.3 b),
-)
-
-pub tells_one : (p : CapturePlace) (l : CaptureLine) (s : Status) (a : List ℕ) → TellsLine p l s a → TellsFrom p (l ∷ []) s a
-tells_one p l s a f = (s, a, Done, [], f, (refl, refl), sym (both_done s), sym (append-nil a))
+  pub tells_one : (p : CapturePlace) (x : A) (s : Status) (a : List ℕ) → Tells p x s a → TellsEach next Tells p (x ∷ []) s a
+  tells_one p x s a f = (s, a, Done, [], f, (refl, refl), sym (both_done s), sym (append-nil a))
 
 -- ---- a line of which no more is buffered than one byte too many
 

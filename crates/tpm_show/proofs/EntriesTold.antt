@@ -1,10 +1,11 @@
 -- What went over a port, told one after the other.
 use Rattle.std.proofs.Common.{◌≡◌, ◌⊎◌, ℕ, ◌+◌, ◌≤◌, ◌<◌, ◌==◌, Bool, true, false, List, [], ◌∷◌, ◌++◌, length, take, Option, Some, None, inl, inr}
-use Rattle.std.proofs.Common.{refl, sym, ap, subst, ◌∙◌, arith, append_assoc, length-append, length-take-le}
+use Rattle.std.proofs.Common.{refl, sym, ap, subst, ◌∙◌, arith, append_assoc, fold, length-append, length-take-le}
 use Rattle.std.specs.Prelude.{zero, suc, ◌&&◌, OnSome}
 use Rattle.std.specs.Io.KnownBytes.{Consumes, IsAtEnd}
 use Rattle.tpm_stream.proofs.Filled.{consumes_both}
 use Rattle.std.proofs.lemmas.Bool.{cases_lt, eqb-true, ne_eqb}
+use Rattle.std.proofs.lemmas.List.Sums.{fold-append}
 use Rattle.std.proofs.lemmas.List.{append-nil, nil_from_length}
 use Rattle.tpm_pcap.specs.Entries.{Entry, Connection, Untold}
 use Rattle.tpm_pcap.specs.Entries as went
@@ -22,29 +23,8 @@ use Rattle.tpm_show.specs.inner.Capturing.{place}
 use Rattle.tpm_show.specs.Packets.{behind_entry, OfReadUpTo, TellsEntry, TellsEntries, TellsPackets, TellsTraffic}
 use Rattle.tpm_show.specs.Packets.{most_packets}
 use Rattle.tpm_show.specs.Reports.{IsReport, no_packet_report}
-use Rattle.tpm_show.specs.inner.PacketsTold.{behind_entries, TellsMany, TellsOne, TellsSoFar}
-use Rattle.tpm_show.proofs.Captures.{both_assoc, both_done}
-
-behind-append : (p : CapturePlace) (xs ys : List Entry) → behind_entries p (xs ++ ys) ≡ behind_entries (behind_entries p xs) ys
-behind-append p [] ys = refl
-behind-append p (x ∷ xs) ys = behind-append (behind_entry p x) xs ys
-
-tells_both : (p : CapturePlace) (xs ys : List Entry) (s t : Status) (a b : List ℕ) → TellsEntries p xs s a
-    → TellsEntries (behind_entries p xs) ys t b → TellsEntries p (xs ++ ys) (both s t) (a ++ b)
-tells_both p [] ys s t a b f g = rw (f.0, f.1) g
-tells_both p (x ∷ xs) ys s t a b f g = (
-  f.0,
-  f.1,
-  both f.2 t,
-  f.3 ++ b,
-  f.4,
-  tells_both (behind_entry p x) xs ys f.2 t f.3 b f.5 g,
-  rw f.6 (both_assoc f.0 f.2 t),
-  rw f.7 (append_assoc f.1 f.3 b),
-)
-
-tells_one : (p : CapturePlace) (e : Entry) (s : Status) (a : List ℕ) → TellsEntry p e s a → TellsEntries p (e ∷ []) s a
-tells_one p e s a f = (s, a, Done, [], f, (refl, refl), sym (both_done s), sym (append-nil a))
+use Rattle.tpm_show.specs.inner.PacketsTold.{TellsMany, TellsOne, TellsSoFar}
+use Rattle.tpm_show.proofs.Captures.{both_assoc, both_done, tells_both, tells_one}
 
 -- A frame alone has a number.
 at_most : (p : CapturePlace) (e : Entry) → (behind_entry p e).number ≤ p.number + 1
@@ -76,7 +56,7 @@ pub many_one : (e : Entry) (d n : Capture) (B : List ℕ → Type 0) → TellsOn
 many_one e d n B g = record {
   status = g.status;
   text = g.text;
-  tells = tells_one (place d) e g.status g.text g.tells;
+  tells = tells_one behind_entry TellsEntry (place d) e g.status g.text g.tells;
   added = g.added;
   place = g.place;
   all = g.all;
@@ -89,9 +69,9 @@ pub many_both : (xs ys : List Entry) (c d n : Capture) (A B C : List ℕ → Typ
 many_both xs ys c d n A B C joins f g = record {
   status = both f.status g.status;
   text = f.text ++ g.text;
-  tells = tells_both (place c) xs ys f.status g.status f.text g.text f.tells (rw (← f.place) g.tells);
+  tells = tells_both behind_entry TellsEntry (place c) xs ys f.status g.status f.text g.text f.tells (rw (← f.place) g.tells);
   added = joins f.text g.text f.added g.added;
-  place = g.place ∙ ap (λ (p : CapturePlace). behind_entries p ys) f.place ∙ sym (behind-append (place c) xs ys);
+  place = g.place ∙ ap (λ (p : CapturePlace). fold behind_entry p ys) f.place ∙ sym (fold-append behind_entry (place c) xs ys);
   all = g.all ∙ ap (λ (s : Status). both s g.status) f.all ∙ both_assoc c.status f.status g.status;
   number = omega (arith, f.number, g.number, length-append xs ys);
   connection = omega (arith, f.connection, g.connection, length-append xs ys);

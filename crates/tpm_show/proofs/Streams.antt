@@ -1,8 +1,9 @@
 -- Streams of frames that are told one frame after the other.
-use Rattle.std.proofs.Common.{◌≡◌, ℕ, ◌+◌, ◌≤◌, List, [], ◌∷◌, ◌++◌, length, map, Option, Some, None, refl, sym, ap, subst}
+use Rattle.std.proofs.Common.{◌≡◌, ℕ, ◌+◌, ◌≤◌, List, [], ◌∷◌, ◌++◌, fold, length, map, Option, Some, None, refl, sym, ap, subst}
 use Rattle.std.proofs.Common.{◌∙◌, inl, inr, arith, append_assoc, length-append}
 use Rattle.std.proofs.lemmas.List.Elements.{All-nil, All-push}
 use Rattle.std.proofs.lemmas.List.Folds.{concat-append}
+use Rattle.std.proofs.lemmas.List.Sums.{fold-append}
 use Rattle.std.proofs.lemmas.List.{append-nil, map-append}
 use Rattle.std.specs.List.{concat}
 use Rattle.std.specs.Io.KnownBytes.{Appends, Consumes, IsAtEnd}
@@ -16,13 +17,12 @@ use Rattle.tpm_output.specs.Status.{both}
 use Rattle.tpm_output.proofs.Joins.{Joins}
 use Rattle.tpm_show.specs.declared.telling.Telling.{Telling}
 use Rattle.tpm_show.specs.declared.capture.Capture.{Capture}
-use Rattle.tpm_show.specs.Capture.{Frame, CapturePlace, start, behind, most_bytes}
-use Rattle.tpm_show.specs.inner.Capturing.{place, behind_all, TellsNext, Streams}
-use Rattle.tpm_show.specs.Reports.{IsReportOrNothing}
+use Rattle.tpm_show.specs.Capture.{Frame, CapturePlace, start, behind, most_bytes, TellsLine}
+use Rattle.tpm_show.specs.inner.Capturing.{place, TellsNext, Streams}
 use Rattle.tpm_show.specs.Reports.{IsReportOrNothing}
 use Rattle.tpm_show.specs.Stream.{Ending, AtEnd, Inside, BadSize, IsEnding, unmarked_frame, ending_report, ending_status}
 use Rattle.tpm_show.specs.Stream.{OfRead, TellsStream}
-use Rattle.tpm_show.proofs.Captures.{both_done, tells_both, tells_one, behind_all-append}
+use Rattle.tpm_show.proofs.Captures.{both_done, tells_both, tells_one}
 
 -- What came so far is told, and is not too much, and no read of it failed.
 abbrev pub StreamGoesOn : (Told : Type 0) → (read failed failed_before : ℕ) → Type 0
@@ -66,11 +66,11 @@ streams_more how old mid new read frame c d A B C joins f consumed is g =
       each = All-push IsFrame f.frames frame f.each is;
       count = omega (arith, f.count, ap length (joined f.frames frame), length-append (concat f.frames) frame);
       tells = rw (g.all, mapped)
-          (tells_both (start how) lines (Frame None frame ∷ []) c.status g.status f.text g.text f.tells
-          (tells_one (behind_all (start how) lines) (Frame None frame) g.status g.text (rw (← f.place) g.tells)));
+          (tells_both behind TellsLine (start how) lines (Frame None frame ∷ []) c.status g.status f.text g.text f.tells
+          (tells_one behind TellsLine (fold behind (start how) lines) (Frame None frame) g.status g.text (rw (← f.place) g.tells)));
       place =
-          g.place ∙ ap (λ (p : CapturePlace). behind p (Frame None frame)) f.place ∙ sym (behind_all-append (start how) lines (Frame None frame ∷ []))
-          ∙ ap (behind_all (start how)) (sym mapped);
+          g.place ∙ ap (λ (p : CapturePlace). behind p (Frame None frame)) f.place ∙ sym (fold-append behind (start how) lines (Frame None frame ∷ []))
+          ∙ ap (fold behind (start how)) (sym mapped);
       number = omega (arith, ap (λ (p : CapturePlace). p.number) g.place, f.number, length-append f.frames (frame ∷ []));
       fewer = omega (arith, f.fewer, is.least, length-append f.frames (frame ∷ []));
       added = joins f.text g.text f.added g.added;

@@ -182,14 +182,19 @@ TellsLine p NotHexadecimal status text =
 TellsLine p TooLong status text =
     (status ≡ Refused) × IsReport p.how.form (fault_report p.number (codes "too long")) text
 
--- From this place the lines are told one after the other. All is done where each is.
-abbrev pub TellsFrom : CapturePlace → List CaptureLine → Status → List ℕ → Type 0
-TellsFrom p [] status text = (status ≡ Done) × (text ≡ [])
-TellsFrom p (first ∷ others) status text = (one : Status) × (told : List ℕ) × (rest : Status) × (more : List ℕ)
-    × TellsLine p first one told
-    × TellsFrom (behind p first) others rest more
+-- From this place these are told one after the other. All is done where each is.
+abbrev pub TellsEach : {A : Type 0} → (next : CapturePlace → A → CapturePlace)
+    → (Tells : CapturePlace → A → Status → List ℕ → Type 0) → CapturePlace → List A → Status → List ℕ → Type 0
+TellsEach next Tells p [] status text = (status ≡ Done) × (text ≡ [])
+TellsEach next Tells p (first ∷ others) status text =
+    (one : Status) × (told : List ℕ) × (rest : Status) × (more : List ℕ)
+    × Tells p first one told
+    × TellsEach next Tells (next p first) others rest more
     × (status ≡ both one rest)
     × (text ≡ told ++ more)
+
+abbrev pub TellsFrom : CapturePlace → List CaptureLine → Status → List ℕ → Type 0
+TellsFrom p lines status text = TellsEach behind TellsLine p lines status text
 
 -- For these bytes of a capture this is the status and what is printed.
 abbrev pub TellsCapture : (how : Telling) → List ℕ → Status → List ℕ → Type 0

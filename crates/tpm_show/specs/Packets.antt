@@ -9,13 +9,12 @@ use Rattle.tpm_pcap.specs.Entries.{Entry, Connection, Untold}
 use Rattle.tpm_pcap.specs.Files.{Traffic, NoCapture, OtherLink, Entries, traffic_in}
 use Rattle.tpm_output.specs.declared.status.Status.TheVariants.{Done, Refused}
 use Rattle.tpm_output.specs.declared.status.Status.{Status}
-use Rattle.tpm_output.specs.Status.{both}
 use Rattle.tpm_show.specs.declared.capture_lines.Direction.TheVariants.{Command, Reply}
 use Rattle.tpm_show.specs.declared.capture_frames.Awaited.TheVariants.{Nothing, Unknown}
 use Rattle.tpm_show.specs.declared.capture_frames.Awaited.{Awaited}
 use Rattle.tpm_show.specs.declared.passage.Passage.{Passage}
 use Rattle.tpm_show.specs.declared.telling.Telling.{Telling}
-use Rattle.tpm_show.specs.Capture.{Frame, CapturePlace, start, behind, TellsLine}
+use Rattle.tpm_show.specs.Capture.{Frame, CapturePlace, start, behind, TellsEach, TellsLine}
 use Rattle.tpm_show.specs.Reports.{IsReport, link_report, no_capture_report, no_packet_report, packet_report}
 use Rattle.tpm_pcap.specs.Entries as went
 
@@ -61,14 +60,8 @@ TellsEntry p (went.Reply stamp bytes) status text = TellsLine (among p stamp) (F
 TellsEntry p (Untold packet reason) status text =
     (status ≡ Refused) × IsReport p.how.form (packet_report packet (reason_text reason)) text
 
--- From this place they are told one after the other. All is done where each is.
 abbrev pub TellsEntries : CapturePlace → List Entry → Status → List ℕ → Type 0
-TellsEntries p [] status text = (status ≡ Done) × (text ≡ [])
-TellsEntries p (first ∷ others) status text = (one : Status) × (told : List ℕ) × (rest : Status) × (more : List ℕ)
-    × TellsEntry p first one told
-    × TellsEntries (behind_entry p first) others rest more
-    × (status ≡ both one rest)
-    × (text ≡ told ++ more)
+TellsEntries p entries status text = TellsEach behind_entry TellsEntry p entries status text
 
 -- ---- a file
 

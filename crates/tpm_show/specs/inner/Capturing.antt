@@ -1,5 +1,5 @@
 -- How far a capture has been told.
-use Rattle.std.specs.Prelude.{◌≡◌, ℕ, ◌+◌, ◌≤◌, false, not, List, [], ◌∷◌, length, map, All, Option, Some, None}
+use Rattle.std.specs.Prelude.{◌≡◌, ℕ, ◌+◌, ◌≤◌, false, not, List, fold, length, map, All, Option, Some, None}
 use Rattle.std.specs.List.{concat}
 use Rattle.std.specs.Io.KnownBytes.{Consumes}
 use Rattle.tpm_stream.specs.Frames.{IsFrame}
@@ -60,11 +60,6 @@ TellsStep step = TellsTo (line_of step.line) step step.new
 
 -- ---- frames
 
--- what is behind these lines
-abbrev pub behind_all : CapturePlace → List CaptureLine → CapturePlace
-behind_all p [] = p
-behind_all p (first ∷ others) = behind_all (behind p first) others
-
 -- an input that is read: what was to come of it, what is to come, and how many bytes came between
 pub record CountedReading : Type 0 where
   pub old : Option (List ℕ)
@@ -79,7 +74,7 @@ pub record Streams (how : Telling) (r : CountedReading) (c : Capture) (Added : L
   pub each : All IsFrame frames
   pub count : r.count ≡ length (concat frames)
   pub tells : TellsFrom (start how) (map unmarked_frame frames) c.status text
-  pub place : place c ≡ behind_all (start how) (map unmarked_frame frames)
+  pub place : place c ≡ fold behind (start how) (map unmarked_frame frames)
   pub number : c.number ≡ length frames + 1
   pub fewer : length frames ≤ r.count
   pub added : Added text

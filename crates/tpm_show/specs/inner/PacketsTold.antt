@@ -1,18 +1,12 @@
 -- How far what went over a port has been told.
-use Rattle.std.specs.Prelude.{◌≡◌, ℕ, ◌+◌, ◌*◌, ◌≤◌, List, [], ◌∷◌, ◌++◌, length}
+use Rattle.std.specs.Prelude.{◌≡◌, ℕ, ◌+◌, ◌*◌, ◌≤◌, List, ◌++◌, fold, length}
 use Rattle.tpm_pcap.specs.Entries.{Entry}
 use Rattle.tpm_pcap.specs.Files.{FilePlace, left_told, most_told}
 use Rattle.tpm_output.specs.declared.status.Status.{Status}
 use Rattle.tpm_output.specs.Status.{both}
 use Rattle.tpm_show.specs.declared.capture.Capture.{Capture}
-use Rattle.tpm_show.specs.Capture.{CapturePlace}
 use Rattle.tpm_show.specs.inner.Capturing.{place}
 use Rattle.tpm_show.specs.Packets.{behind_entry, TellsEntry, TellsEntries}
-
--- what is behind these
-abbrev pub behind_entries : CapturePlace → List Entry → CapturePlace
-behind_entries p [] = p
-behind_entries p (first ∷ others) = behind_entries (behind_entry p first) others
 
 -- This was told.
 pub record TellsOne (e : Entry) (old new : Capture) (Added : List ℕ → Type 0) : Type 0 where
@@ -29,7 +23,7 @@ pub record TellsMany (entries : List Entry) (old new : Capture) (Added : List �
   pub text : List ℕ
   pub tells : TellsEntries (place old) entries status text
   pub added : Added text
-  pub place : place new ≡ behind_entries (place old) entries
+  pub place : place new ≡ fold behind_entry (place old) entries
   pub all : new.status ≡ both old.status status
   pub number : new.number ≤ old.number + length entries
   pub connection : new.passage.connection ≤ old.passage.connection + length entries
