@@ -22,7 +22,7 @@ use Rattle.tpm_show.specs.Capture.{CapturePlace, start}
 use Rattle.tpm_show.specs.inner.Capturing.{place}
 use Rattle.tpm_show.specs.Packets.{behind_entry, OfReadUpTo, TellsEntry, TellsEntries, TellsPackets, TellsTraffic}
 use Rattle.tpm_show.specs.Packets.{most_packets}
-use Rattle.tpm_show.specs.Reports.{IsReport, no_packet_report}
+use Rattle.tpm_show.specs.Reports.{IsReport, fault_told, no_packet}
 use Rattle.tpm_show.specs.inner.PacketsTold.{TellsMany, TellsOne, TellsSoFar}
 use Rattle.tpm_show.proofs.Captures.{both_assoc, both_done, tells_both, tells_one}
 
@@ -167,7 +167,7 @@ ends_at new room count (suc left) before most within met room_left all none =
 
 -- Where nothing went over the port that is told, and else all of it.
 pub none_told : (how : Telling) (port : ℕ) (entries : List Entry) (text : List ℕ) → (length entries == 0) ≡ true
-    → IsReport how.form (no_packet_report port) text → TellsTraffic how port (Entries entries) Refused text
+    → IsReport how.form false (fault_told (no_packet port)) text → TellsTraffic how port (Entries entries) Refused text
 none_told how port [] text none f = (refl, f)
 none_told how port (x ∷ xs) text none f = absurd (omega (arith, eqb-true (length (x ∷ xs)) 0 none))
 

@@ -20,7 +20,7 @@ use Rattle.tpm_show.specs.declared.capture.Capture.{Capture}
 use Rattle.tpm_show.specs.Capture.{Frame, CapturePlace, start, behind, most_bytes, TellsLine}
 use Rattle.tpm_show.specs.inner.Capturing.{place, TellsNext, Streams}
 use Rattle.tpm_show.specs.Reports.{IsReportOrNothing}
-use Rattle.tpm_show.specs.Stream.{Ending, AtEnd, Inside, BadSize, IsEnding, unmarked_frame, ending_report, ending_status}
+use Rattle.tpm_show.specs.Stream.{Ending, AtEnd, Inside, BadSize, IsEnding, unmarked_frame, ending_told, ending_status}
 use Rattle.tpm_show.specs.Stream.{OfRead, TellsStream}
 use Rattle.tpm_show.proofs.Captures.{both_done, tells_both, tells_one}
 
@@ -92,7 +92,7 @@ broken_more rest more b = record {
 tells_stream : (how : Telling) (old mid : Option (List ℕ)) (read : ℕ) (c : Capture) (A : List ℕ → Type 0)
     → (f : Streams how (record { old = old; new = mid; count = read }) c A)
     → (rest : List ℕ) (ending : Ending) (last : List ℕ) → BeginsNoFrame rest → IsEnding rest ending
-    → IsReportOrNothing how.form (ending_report ending c.number read) last
+    → IsReportOrNothing how.form (ending_told ending c.number read) last
     → TellsStream how (concat f.frames ++ rest) (both c.status (ending_status ending)) (f.text ++ last)
 tells_stream how old mid read c A f rest ending last over ends report = record {
   frames = f.frames;
@@ -105,8 +105,8 @@ tells_stream how old mid read c A f rest ending last over ends report = record {
   tells = f.tells;
   all = refl;
   last = last;
-  report = subst (λ (n : ℕ). IsReportOrNothing how.form (ending_report ending n (length (concat f.frames))) last) f.number
-      (subst (λ (at_byte : ℕ). IsReportOrNothing how.form (ending_report ending c.number at_byte) last) f.count report);
+  report = subst (λ (n : ℕ). IsReportOrNothing how.form (ending_told ending n (length (concat f.frames))) last) f.number
+      (subst (λ (at_byte : ℕ). IsReportOrNothing how.form (ending_told ending c.number at_byte) last) f.count report);
   are = refl;
 }
 
@@ -133,7 +133,7 @@ stream_ends how old mid new read c A f consumed end = (
 -- inside a frame
 pub stream_cut : (how : Telling) (old mid new : Option (List ℕ)) (read : ℕ) (rest last : List ℕ) (c : Capture) (A B C : List ℕ → Type 0) → Joins A B C
     → Streams how (record { old = old; new = mid; count = read }) c A → Consumes mid new rest
-    → IsEnding rest Inside → IsAtEnd new → IsReportOrNothing how.form (ending_report Inside c.number read) last → B last → StreamAnswers how old new C Refused
+    → IsEnding rest Inside → IsAtEnd new → IsReportOrNothing how.form (ending_told Inside c.number read) last → B last → StreamAnswers how old new C Refused
 stream_cut how old mid new read rest last c A B C joins f consumed ends end report added = (
   f.text ++ last,
   record {
@@ -149,7 +149,7 @@ stream_cut how old mid new read rest last c A B C joins f consumed ends end repo
 -- at a size that no frame has
 pub stream_breaks : (how : Telling) (old mid new : Option (List ℕ)) (read : ℕ) (rest last : List ℕ) (c : Capture) (A B C : List ℕ → Type 0) → Joins A B C
     → Streams how (record { old = old; new = mid; count = read }) c A → Consumes mid new rest
-    → IsBroken rest → IsReportOrNothing how.form (ending_report BadSize c.number read) last → B last → StreamAnswers how old new C Refused
+    → IsBroken rest → IsReportOrNothing how.form (ending_told BadSize c.number read) last → B last → StreamAnswers how old new C Refused
 stream_breaks how old mid new read rest last c A B C joins f consumed broken report added =
     let whole : (more : List ℕ) → TellsStream how (concat f.frames ++ (rest ++ more)) Refused (f.text ++ last) =
     λ more. subst (λ (s : Status). TellsStream how (concat f.frames ++ (rest ++ more)) s (f.text ++ last)) (both_refused c.status)

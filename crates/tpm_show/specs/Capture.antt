@@ -23,7 +23,7 @@ use Rattle.tpm_show.specs.Passages.{passage_told}
 use Rattle.tpm_show.specs.declared.piece.How.TheVariants.{Alone}
 use Rattle.tpm_show.specs.Pieces.{Piece, Word, line_end, says}
 use Rattle.tpm_show.specs.Refusals.{CommandBytes, ReplyBytes, TellsBuffer, head_told, status_if}
-use Rattle.tpm_show.specs.Reports.{IsReport, fault_report, frame_report}
+use Rattle.tpm_show.specs.Reports.{IsReport, front, numbered_told}
 use Rattle.tpm_show.specs.declared.capture_frames.Awaited.TheVariants as awaits
 
 -- ---- what a line has
@@ -176,11 +176,11 @@ TellsLine p (Frame mark bytes) status text =
     let direction = direction_of mark p.awaited bytes in
     (pieces : List Piece)
     × TellsFrame direction (frame_at p bytes) status pieces
-    × IsReport p.how.form (frame_report p.how.fields p.number direction pieces) text
+    × IsReport p.how.form p.how.fields (front p.number direction ++ pieces) text
 TellsLine p NotHexadecimal status text =
-    (status ≡ Refused) × IsReport p.how.form (fault_report p.number (codes "not hexadecimal")) text
+    (status ≡ Refused) × IsReport p.how.form false (numbered_told p.number (codes "not hexadecimal")) text
 TellsLine p TooLong status text =
-    (status ≡ Refused) × IsReport p.how.form (fault_report p.number (codes "too long")) text
+    (status ≡ Refused) × IsReport p.how.form false (numbered_told p.number (codes "too long")) text
 
 -- From this place these are told one after the other. All is done where each is.
 abbrev pub TellsEach : {A : Type 0} → (next : CapturePlace → A → CapturePlace)

@@ -30,8 +30,5 @@ tokens_of (InLine h v) = []
 tokens_of (Opens name s) = name_tokens name ++ opening s ∷ []
 tokens_of (Closes s) = closing s ∷ []
 
-abbrev pub in_members : List Piece → List Token
-in_members pieces = flat_map tokens_of pieces
-
-unfoldable pub object_of : (members : List Token) → List Token
-object_of members = begin_object ∷ (members ++ end_object ∷ [])
+unfoldable pub object_of : List Piece → List Token
+object_of pieces = begin_object ∷ (flat_map tokens_of pieces ++ end_object ∷ [])

@@ -1,5 +1,5 @@
 -- What `show --pcap` prints: what went over a simulator's port, one after the other (this profile).
-use Rattle.std.specs.Prelude.{◌≡◌, ◌⊎◌, ◌≤◌, ℕ, ◌+◌, List, [], ◌∷◌, ◌++◌, length, codes, Option, Some, OnSome}
+use Rattle.std.specs.Prelude.{◌≡◌, ◌⊎◌, ◌≤◌, ℕ, ◌+◌, false, List, [], ◌∷◌, ◌++◌, length, codes, Option, Some, OnSome}
 use Rattle.std.specs.Io.KnownBytes.{Consumes, IsAtEnd}
 use Rattle.tpm_pcap.specs.declared.entry.Reason.TheVariants.{CutShort, Fragment, SentAgain, OutOfOrder, NoMessage}
 use Rattle.tpm_pcap.specs.declared.entry.Reason.TheVariants.{Malformed, UnknownLink, Unfinished}
@@ -15,7 +15,8 @@ use Rattle.tpm_show.specs.declared.capture_frames.Awaited.{Awaited}
 use Rattle.tpm_show.specs.declared.passage.Passage.{Passage}
 use Rattle.tpm_show.specs.declared.telling.Telling.{Telling}
 use Rattle.tpm_show.specs.Capture.{Frame, CapturePlace, start, behind, TellsEach, TellsLine}
-use Rattle.tpm_show.specs.Reports.{IsReport, link_report, no_capture_report, no_packet_report, packet_report}
+use Rattle.tpm_show.specs.Reports.{IsReport, fault_at_told, fault_told, link_fault, no_capture_told, no_packet}
+use Rattle.tpm_show.specs.Reports.{packet_fault_told}
 use Rattle.tpm_pcap.specs.Entries as went
 
 -- ---- a packet that is not told
@@ -58,7 +59,7 @@ TellsEntry p Connection status text = (status ≡ Done) × (text ≡ [])
 TellsEntry p (went.Command stamp bytes) status text = TellsLine (among p stamp) (Frame (Some Command) bytes) status text
 TellsEntry p (went.Reply stamp bytes) status text = TellsLine (among p stamp) (Frame (Some Reply) bytes) status text
 TellsEntry p (Untold packet reason) status text =
-    (status ≡ Refused) × IsReport p.how.form (packet_report packet (reason_text reason)) text
+    (status ≡ Refused) × IsReport p.how.form false (packet_fault_told packet (reason_text reason)) text
 
 abbrev pub TellsEntries : CapturePlace → List Entry → Status → List ℕ → Type 0
 TellsEntries p entries status text = TellsEach behind_entry TellsEntry p entries status text
@@ -66,9 +67,11 @@ TellsEntries p entries status text = TellsEach behind_entry TellsEntry p entries
 -- ---- a file
 
 abbrev pub TellsTraffic : (how : Telling) → (port : ℕ) → Traffic → Status → List ℕ → Type 0
-TellsTraffic how port NoCapture status text = (status ≡ Refused) × IsReport how.form no_capture_report text
-TellsTraffic how port (OtherLink number) status text = (status ≡ Refused) × IsReport how.form (link_report number) text
-TellsTraffic how port (Entries []) status text = (status ≡ Refused) × IsReport how.form (no_packet_report port) text
+TellsTraffic how port NoCapture status text = (status ≡ Refused) × IsReport how.form false no_capture_told text
+TellsTraffic how port (OtherLink number) status text =
+    (status ≡ Refused) × IsReport how.form false (fault_at_told (link_fault number) 20) text
+TellsTraffic how port (Entries []) status text =
+    (status ≡ Refused) × IsReport how.form false (fault_told (no_packet port)) text
 TellsTraffic how port (Entries (first ∷ others)) status text = TellsEntries (start how) (first ∷ others) status text
 
 -- For the bytes of a file, and the port of the simulator, this is the status and what is printed.

@@ -9,31 +9,24 @@ use Rattle.tpm_output.specs.declared.form.Form.{Form}
 use Rattle.tpm_show.specs.declared.capture_lines.Direction.TheVariants.{Command, Reply}
 use Rattle.tpm_show.specs.declared.capture_lines.Direction.{Direction}
 use Rattle.tpm_show.specs.declared.piece.How.TheVariants as how
-use Rattle.tpm_show.specs.FrameJson.{in_members, object_of}
+use Rattle.tpm_show.specs.FrameJson.{object_of}
 use Rattle.tpm_show.specs.FrameLines.{in_lines}
 use Rattle.tpm_show.specs.Pieces.{Word, Number, Piece, InLine, line_end, says, words}
-
--- the lines of it, and the members of its object
-pub record Report : Type 0 where
-  pub lines : List ℕ
-  pub members : List Token
-
-abbrev pub report : (names : Bool) → List Piece → Report
-report names pieces = record { lines = in_lines names pieces; members = in_members pieces }
 
 -- The text is these tokens in a line, and reads back as them.
 pub record IsObjectLine (object : List Token) (text : List ℕ) : Type 0 where
   pub is : text ≡ print object ++ codes "\n"
   pub reads_back : tokens (print object) ≡ object
 
-abbrev pub IsReport : Form → Report → (text : List ℕ) → Type 0
-IsReport Lines report text = text ≡ report.lines
-IsReport Json report text = IsObjectLine (object_of report.members) text
+-- The text tells these pieces: in lines, with names behind numbers where these are asked for, or in an object.
+abbrev pub IsReport : Form → (names : Bool) → List Piece → (text : List ℕ) → Type 0
+IsReport Lines names pieces text = text ≡ in_lines names pieces
+IsReport Json names pieces text = IsObjectLine (object_of pieces) text
 
 -- where there is one
-abbrev pub IsReportOrNothing : Form → Option Report → (text : List ℕ) → Type 0
+abbrev pub IsReportOrNothing : Form → Option (List Piece) → (text : List ℕ) → Type 0
 IsReportOrNothing form None text = text ≡ []
-IsReportOrNothing form (Some report) text = IsReport form report text
+IsReportOrNothing form (Some pieces) text = IsReport form false pieces text
 
 -- ---- a frame
 
@@ -50,9 +43,6 @@ unfoldable pub front : ℕ → Direction → List Piece
 front number direction = says how.Alone (codes "number") (Number number) ∷ InLine how.Behind (Word (mark_of direction))
     ∷ says how.Nowhere (codes "kind") (Word (kind_of direction)) ∷ words (codes " ") ∷ []
 
-abbrev pub frame_report : (names : Bool) → ℕ → Direction → List Piece → Report
-frame_report names number direction pieces = report names (front number direction ++ pieces)
-
 -- ---- in place of a frame
 
 abbrev pub fault_told : List ℕ → List Piece
@@ -62,49 +52,31 @@ abbrev pub fault_at_told : List ℕ → ℕ → List Piece
 fault_at_told fault at =
     says how.Alone (codes "fault") (Word fault) ∷ says how.Under (codes "at") (Number at) ∷ line_end ∷ []
 
-abbrev pub numbered_told : ℕ → List ℕ → List Piece
+-- of a line of this number that has no frame
+unfoldable pub numbered_told : ℕ → List ℕ → List Piece
 numbered_told number fault =
     says how.Alone (codes "number") (Number number) ∷ says how.Behind (codes "fault") (Word fault) ∷ line_end ∷ []
 
--- of a line of this number that has no frame
-abbrev pub fault_report : ℕ → List ℕ → Report
-fault_report number fault = report false (numbered_told number fault)
-
+-- of a frame of this number that does not come, behind so many bytes
 abbrev pub stop_told : ℕ → List ℕ → ℕ → List Piece
 stop_told number fault at =
     says how.Alone (codes "number") (Number number) ∷ says how.Behind (codes "fault") (Word fault)
     ∷ says how.Under (codes "at") (Number at) ∷ line_end ∷ []
 
--- of a frame of this number that does not come, behind so many bytes
-abbrev pub stop_report : ℕ → List ℕ → ℕ → Report
-stop_report number fault at = report false (stop_told number fault at)
-
+-- of a packet that is not told
 abbrev pub packet_fault_told : ℕ → List ℕ → List Piece
 packet_fault_told packet reason =
     words (codes "packet") ∷ says how.Behind (codes "packet") (Number packet)
     ∷ words (codes ":") ∷ says how.Behind (codes "fault") (Word reason) ∷ line_end ∷ []
 
--- of a packet that is not told
-abbrev pub packet_report : ℕ → List ℕ → Report
-packet_report packet reason = report false (packet_fault_told packet reason)
-
+-- of a file that is no capture
 abbrev pub no_capture_told : List Piece
 no_capture_told = fault_at_told (codes "no capture of libpcap") 0
 
--- of a file that is no capture
-abbrev pub no_capture_report : Report
-no_capture_report = report false no_capture_told
-
+-- of a file without packets of the port
 unfoldable pub no_packet : ℕ → List ℕ
 no_packet port = codes "no packet of port " ++ decimal port
 
--- of a file without packets of the port
-abbrev pub no_packet_report : ℕ → Report
-no_packet_report port = report false (fault_told (no_packet port))
-
+-- of a capture whose link is of this type
 unfoldable pub link_fault : ℕ → List ℕ
 link_fault number = codes "link type " ++ (decimal number ++ codes " is not known")
-
--- of a capture whose link is of this type
-abbrev pub link_report : ℕ → Report
-link_report number = report false (fault_at_told (link_fault number) 20)

@@ -8,7 +8,8 @@ use Rattle.tpm_output.specs.declared.status.Status.TheVariants.{Done, Refused}
 use Rattle.tpm_output.specs.declared.status.Status.{Status}
 use Rattle.tpm_output.specs.Status.{both}
 use Rattle.tpm_show.specs.declared.telling.Telling.{Telling}
-use Rattle.tpm_show.specs.Reports.{IsReportOrNothing, Report, stop_report}
+use Rattle.tpm_show.specs.Pieces.{Piece}
+use Rattle.tpm_show.specs.Reports.{IsReportOrNothing, stop_told}
 use Rattle.tpm_show.specs.Capture.{CaptureLine, Frame, start, TellsFrom}
 
 -- how a stream goes on behind its last frame: not at all, with less than a frame, or with a size that no frame has
@@ -23,10 +24,10 @@ IsEnding rest Inside = IsPart rest × (0 < length rest)
 IsEnding rest BadSize = IsBroken rest
 
 -- what is told of it, where the next frame has this number, behind so many bytes
-abbrev pub ending_report : Ending → (number at : ℕ) → Option Report
-ending_report AtEnd number at = None
-ending_report Inside number at = Some (stop_report number (codes "cut short") at)
-ending_report BadSize number at = Some (stop_report number (codes "bad size") at)
+abbrev pub ending_told : Ending → (number at : ℕ) → Option (List Piece)
+ending_told AtEnd number at = None
+ending_told Inside number at = Some (stop_told number (codes "cut short") at)
+ending_told BadSize number at = Some (stop_told number (codes "bad size") at)
 
 abbrev pub ending_status : Ending → Status
 ending_status AtEnd = Done
@@ -48,7 +49,7 @@ pub record TellsStream (how : Telling) (bytes : List ℕ) (status : Status) (tex
   pub tells : TellsFrom (start how) (map unmarked_frame frames) one told
   pub all : status ≡ both one (ending_status ending)
   pub last : List ℕ
-  pub report : IsReportOrNothing how.form (ending_report ending (length frames + 1) (length (concat frames))) last
+  pub report : IsReportOrNothing how.form (ending_told ending (length frames + 1) (length (concat frames))) last
   pub are : text ≡ told ++ last
 
 -- Of these bytes the frames that have come are told, and of the one that has not nothing.

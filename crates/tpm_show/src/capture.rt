@@ -1,6 +1,6 @@
 //! The subcommand `show` of a capture in lines.
 
-ghost use Rattle.std.specs.Prelude.{◌≡◌, ◌+◌, ◌^◌, ◌<◌, ◌≤◌, ◌++◌, ℕ, List, None, IfOk, OnOk, IsErrOf};
+ghost use Rattle.std.specs.Prelude.{◌≡◌, ◌+◌, ◌^◌, ◌<◌, ◌≤◌, ◌++◌, ℕ, false, List, None, IfOk, OnOk, IsErrOf};
 ghost use Rattle.std.specs.Prelude.{flat_map, string_bytes};
 ghost use Rattle.std.specs.Io.KnownBytes.{Appends, Consumes};
 ghost use Rattle.tpm_wire.specs.Sources.{IsWhereItFailed};
@@ -13,9 +13,9 @@ ghost use Rattle.tpm_show.specs.Capture.{Frame, frame_at, start, TellsCapture, T
 ghost use Rattle.tpm_show.specs.Capture.{ReadsTooMuchCapture, TellsEnded};
 ghost use Rattle.tpm_show.specs.inner.Capturing.{frame_as, read_as, place, Passes, TellsNext};
 ghost use Rattle.tpm_show.specs.FrameJson.{object_of};
+ghost use Rattle.tpm_show.specs.FrameLines.{in_lines};
 ghost use Rattle.tpm_show.specs.Pieces.{Piece};
-ghost use Rattle.tpm_show.specs.Reports.{IsObjectLine, IsReport, fault_report, frame_report, front};
-ghost use Rattle.tpm_show.specs.Reports.{kind_of, mark_of};
+ghost use Rattle.tpm_show.specs.Reports.{IsObjectLine, IsReport, front, kind_of, mark_of, numbered_told};
 
 use crate::capture_frames::{Awaited, FrameAt, awaited_behind, direction_of, tell_frame};
 use crate::capture_lines::{CaptureLine, Direction, MOST_LINE, read_line};
@@ -111,7 +111,7 @@ impl Capture {
     fn tell_fault(&mut self, alloc: Global, text: &mut String, fault: &'static str) -> Pushed
         requires { self.old.number + 1 < 2 ^ 64 }
         ensures { OnOk result ((report : List ℕ)
-            × IsReport self.old.how.form (fault_report self.old.number fault.now) report
+            × IsReport self.old.how.form false (numbered_told self.old.number fault.now) report
             × (string_bytes text.new ≡ string_bytes text.old ++ report)
             × Passes self.old Unknown Refused self.new) }
     {
@@ -145,7 +145,7 @@ impl Capture {
         ensures { IfOk result (λ status. (pieces : List Piece)
             × TellsFrame direction (frame_at (place self.now) bytes.now) status pieces
             × (string_bytes text.new ≡ string_bytes text.old
-            ++ (frame_report FIELDS self.now.number direction pieces).lines)) }
+            ++ in_lines FIELDS (front self.now.number direction ++ pieces))) }
     {
         let mut lines = Lines::<FIELDS>::new(alloc);
         tell_front(&mut lines, self.number, direction)?;
@@ -166,8 +166,7 @@ impl Capture {
         ensures { IfOk result (λ status. (pieces : List Piece)
             × TellsFrame direction (frame_at (place self.now) bytes.now) status pieces
             × (line : List ℕ)
-            × IsObjectLine (object_of (frame_report self.now.how.fields self.now.number
-            direction pieces).members) line
+            × IsObjectLine (object_of (front self.now.number direction ++ pieces)) line
             × (string_bytes text.new ≡ string_bytes text.old ++ line)) }
     {
         let mut object = Object::begin(alloc)?;
@@ -188,8 +187,8 @@ impl Capture {
         ensures { IfOk result (λ status. (pieces : List Piece)
             × TellsFrame direction (frame_at (place self.now) bytes.now) status pieces
             × (report : List ℕ)
-            × IsReport self.now.how.form
-            (frame_report self.now.how.fields self.now.number direction pieces) report
+            × IsReport self.now.how.form self.now.how.fields
+            (front self.now.number direction ++ pieces) report
             × (string_bytes text.new ≡ string_bytes text.old ++ report)) }
     {
         match (self.how.form, self.how.fields) {

@@ -1,11 +1,12 @@
 //! What is told in place of a frame, as a line or as an object of JSON.
 
-ghost use Rattle.std.specs.Prelude.{◌≡◌, ◌++◌, ℕ, List, IfOk, OnOk, flat_map, string_bytes};
+ghost use Rattle.std.specs.Prelude.{◌≡◌, ◌++◌, ℕ, false, List, IfOk, OnOk, flat_map, string_bytes};
 ghost use Rattle.std.specs.Io.KnownBytes.{Appends};
 ghost use Rattle.tpm_output.specs.declared.status.Status.TheVariants.{Refused};
 ghost use Rattle.tpm_output.specs.Faults.{FailsByMemoryOrWrite};
 ghost use Rattle.tpm_show.specs.FrameJson.{object_of};
-ghost use Rattle.tpm_show.specs.inner.Remarks.{remark_told, report_of};
+ghost use Rattle.tpm_show.specs.FrameLines.{in_lines};
+ghost use Rattle.tpm_show.specs.inner.Remarks.{remark_told};
 ghost use Rattle.tpm_show.specs.Reports.{IsObjectLine, IsReport, fault_at_told, fault_told, link_fault, no_packet};
 
 use crate::lines::Lines;
@@ -49,6 +50,7 @@ fn tell_fault_at<T: Teller>(teller: &mut T, fault: &str, at: u64) -> Pushed
     tell_pieces!(teller; says!(Alone "fault" Word fault), says!(Under "at" Number at), LINE_END)
 }
 
+#[tactic(auto, unfolding(crate::specs::Reports::numbered_told))]
 fn tell_remark<T: Teller>(teller: &mut T, remark: Remark) -> Pushed
     ensures { OnOk result
         (T.told teller.new ≡ T.told teller.old ++ flat_map T.marks (remark_told remark)) }
@@ -76,7 +78,7 @@ fn tell_remark<T: Teller>(teller: &mut T, remark: Remark) -> Pushed
 
 fn push_line(alloc: Global, text: &mut String, remark: Remark) -> Pushed
     ensures { OnOk result (string_bytes text.new
-        ≡ string_bytes text.old ++ (report_of remark).lines) }
+        ≡ string_bytes text.old ++ in_lines false (remark_told remark)) }
 {
     let mut lines = Lines::<false>::new(alloc);
     tell_remark(&mut lines, remark)?;
@@ -86,7 +88,7 @@ fn push_line(alloc: Global, text: &mut String, remark: Remark) -> Pushed
 #[tactic(auto, using(std::proofs::Common::append_assoc), unfolding(crate::specs::FrameJson::object_of))]
 fn push_object(alloc: Global, text: &mut String, remark: Remark) -> Pushed
     ensures { OnOk result ((line : List ℕ)
-        × IsObjectLine (object_of (report_of remark).members) line
+        × IsObjectLine (object_of (remark_told remark)) line
         × (string_bytes text.new ≡ string_bytes text.old ++ line)) }
 {
     let mut object = Object::begin(alloc)?;
@@ -97,7 +99,7 @@ fn push_object(alloc: Global, text: &mut String, remark: Remark) -> Pushed
 /// Adds its line, or its object.
 pub(crate) fn push_remark(alloc: Global, text: &mut String, form: Form, remark: Remark) -> Pushed
     ensures { OnOk result ((report : List ℕ)
-        × IsReport form (report_of remark) report
+        × IsReport form false (remark_told remark) report
         × (string_bytes text.new ≡ string_bytes text.old ++ report)) }
 {
     match form {
@@ -115,7 +117,7 @@ pub(crate) fn print_remark<W: Write>(
 ) -> Result<Status, ToolFault>
     ensures ok { IfOk result (λ status. (status ≡ Refused)
         × (text : List ℕ)
-        × IsReport form (report_of remark) text
+        × IsReport form false (remark_told remark) text
         × Appends (W.contents out.old) (W.contents out.new) text) }
     ensures err { FailsByMemoryOrWrite result }
 {
