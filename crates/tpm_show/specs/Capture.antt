@@ -22,7 +22,7 @@ use Rattle.tpm_show.specs.Library.{library_response, response_areas_told}
 use Rattle.tpm_show.specs.Passages.{passage_told}
 use Rattle.tpm_show.specs.declared.piece.How.TheVariants.{Alone}
 use Rattle.tpm_show.specs.Pieces.{Piece, Word, line_end, says}
-use Rattle.tpm_show.specs.Refusals.{CommandBytes, ReplyBytes, TellsBuffer, head_told, status_if}
+use Rattle.tpm_show.specs.Refusals.{TellsBuffer, head_told, status_if}
 use Rattle.tpm_show.specs.Reports.{IsReport, front, numbered_told}
 use Rattle.tpm_show.specs.declared.capture_frames.Awaited.TheVariants as awaits
 
@@ -127,7 +127,7 @@ pub record FrameAt : Type 0 where
   pub fields : Bool
 
 abbrev pub TellsReply : Awaited → FrameAt → Status → List Piece → Type 0
-TellsReply (awaits.Reply command) f status pieces = TellsBuffer f.fields (ReplyBytes command f.bytes) status pieces
+TellsReply (awaits.Reply command) f status pieces = TellsBuffer f.fields (Some command) f.bytes status pieces
 TellsReply (awaits.Other code) f status pieces = TellsOther (command_of code) f.bytes status pieces
 TellsReply awaits.Unknown f status pieces =
     (status ≡ Refused) × (pieces ≡ untold (codes "its command is not known"))
@@ -136,7 +136,7 @@ TellsReply awaits.Nothing f status pieces =
 
 -- behind the header of a frame that went this way
 abbrev pub TellsRest : Direction → FrameAt → Status → List Piece → Type 0
-TellsRest Command f status pieces = TellsBuffer f.fields (CommandBytes f.bytes) status pieces
+TellsRest Command f status pieces = TellsBuffer f.fields None f.bytes status pieces
 TellsRest Reply f status pieces = TellsReply f.awaited f status pieces
 
 -- what its header says, whatever is refused, its packet, and what stands behind the header

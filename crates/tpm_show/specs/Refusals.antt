@@ -1,4 +1,5 @@
--- What is told of a buffer, whether the bytes spell what they are taken for or not (this profile).
+-- What is told of a buffer, whether the bytes spell what they are taken for or not (this profile). Where a command is
+-- named they are taken for a response to it, and else for a command.
 use Rattle.std.specs.Prelude.{◌≡◌, ◌⊎◌, ℕ, ◌&&◌, Bool, true, false, List, [], ◌∷◌, ◌++◌, codes, Option, Some, None}
 use Rattle.std.specs.Prelude.{is_some}
 use Rattle.tpm_wire.specs.declared.refusal.Refusal.{Refusal}
@@ -23,11 +24,6 @@ use Rattle.tpm_show.specs.Headers.{code_text, command_head, header_in, reply_hea
 use Rattle.tpm_show.specs.Library.{command_areas_told, library_command, library_response, response_areas_told}
 use Rattle.tpm_show.specs.Pieces.{Code, Number, Piece, asked_told, line_end, says, word_told, words}
 
--- bytes that are taken for a command, or for a response to this one
-pub data Buffer : Type 0 where
-  CommandBytes : (bytes : List ℕ) → Buffer
-  ReplyBytes : (command : CommandCode) → (bytes : List ℕ) → Buffer
-
 -- ---- the header
 
 -- what it says, of a reply to the command of this code
@@ -36,16 +32,16 @@ head_told direction answered None = []
 head_told Command answered (Some h) = command_head h
 head_told Reply answered (Some h) = reply_head answered h
 
-abbrev pub buffer_head : Buffer → List Piece
-buffer_head (CommandBytes bytes) = head_told Command None (header_in bytes)
-buffer_head (ReplyBytes code bytes) = head_told Reply (Some (code_number code)) (header_in bytes)
+abbrev pub buffer_head : (reply : Option CommandCode) → List ℕ → List Piece
+buffer_head None bytes = head_told Command None (header_in bytes)
+buffer_head (Some code) bytes = head_told Reply (Some (code_number code)) (header_in bytes)
 
 -- ---- a fault
 
 -- the bytes' fault
-abbrev pub IsFault : Buffer → Refusal → Type 0
-IsFault (CommandBytes bytes) refusal = Fault command bytes refusal
-IsFault (ReplyBytes code bytes) refusal = Fault (response code) bytes refusal
+abbrev pub IsFault : (reply : Option CommandCode) → List ℕ → Refusal → Type 0
+IsFault None bytes refusal = Fault command bytes refusal
+IsFault (Some code) bytes refusal = Fault (response code) bytes refusal
 
 -- the code of a header; without one none is beyond the profile
 abbrev pub code_in : Option FrameHeader → ℕ
@@ -54,17 +50,17 @@ code_in (Some h) = h.code
 
 -- It is beyond this profile where a larger one would not have it, and the library's tables have what is behind the
 -- header.
-abbrev pub is_buffer_beyond : Buffer → Refusal → Bool
-is_buffer_beyond (CommandBytes bytes) refusal =
+abbrev pub is_buffer_beyond : (reply : Option CommandCode) → List ℕ → Refusal → Bool
+is_buffer_beyond None bytes refusal =
     is_some (library_command bytes (header_in bytes)) && is_beyond Command (code_in (header_in bytes)) refusal bytes
-is_buffer_beyond (ReplyBytes code bytes) refusal =
+is_buffer_beyond (Some code) bytes refusal =
     is_some (library_response (command_of (code_number code)) bytes (header_in bytes))
     && is_beyond Reply (code_number code) refusal bytes
 
 -- what is behind the header by the library's tables
-abbrev pub library_told : Buffer → List Piece
-library_told (CommandBytes bytes) = command_areas_told (library_command bytes (header_in bytes))
-library_told (ReplyBytes code bytes) =
+abbrev pub library_told : (reply : Option CommandCode) → List ℕ → List Piece
+library_told None bytes = command_areas_told (library_command bytes (header_in bytes))
+library_told (Some code) bytes =
     response_areas_told (library_response (command_of (code_number code)) bytes (header_in bytes))
 
 abbrev pub verdict : (beyond : Bool) → List ℕ
@@ -81,8 +77,9 @@ refusal_told beyond refusal = words (verdict beyond) ∷ says how.Behind (verdic
     ∷ (word_told how.Nowhere (codes "fault") (code_text refusal.code)
     ++ says how.Under (codes "at") (Number refusal.at) ∷ (asked_told (code_text refusal.code) ++ line_end ∷ []))
 
-abbrev pub refused_told : Buffer → Refusal → List Piece
-refused_told buffer refusal = refusal_told (is_buffer_beyond buffer refusal) refusal ++ library_told buffer
+abbrev pub refused_told : (reply : Option CommandCode) → List ℕ → Refusal → List Piece
+refused_told reply bytes refusal =
+    refusal_told (is_buffer_beyond reply bytes refusal) refusal ++ library_told reply bytes
 
 -- What is beyond this profile is not refused.
 abbrev pub status_if : (beyond : Bool) → Status
@@ -92,21 +89,18 @@ status_if false = Refused
 -- ---- a buffer
 
 -- A command or a response that the bytes spell is told behind its header.
-abbrev pub TellsSpelled : (fields : Bool) → Buffer → List Piece → Type 0
-TellsSpelled fields (CommandBytes bytes) pieces =
+abbrev pub TellsSpelled : (fields : Bool) → (reply : Option CommandCode) → List ℕ → List Piece → Type 0
+TellsSpelled fields None bytes pieces =
     (c : CommandOf) × (areas : Cut) × Spells command c bytes × HasCut bytes areas
     × (pieces ≡ command_rest fields areas c.body)
-TellsSpelled fields (ReplyBytes code bytes) pieces =
+TellsSpelled fields (Some code) bytes pieces =
     (r : Response) × (areas : ReplyCut) × Spells (response code) r bytes × Spells (reply_cut code) areas bytes
     × (pieces ≡ response_rest fields areas r)
 
-abbrev pub TellsRefused : Buffer → Status → List Piece → Type 0
-TellsRefused buffer status pieces =
-    (refusal : Refusal) × IsFault buffer refusal
-    × (status ≡ status_if (is_buffer_beyond buffer refusal))
-    × (pieces ≡ refused_told buffer refusal)
-
 -- It is told, and else their fault.
-abbrev pub TellsBuffer : (fields : Bool) → Buffer → Status → List Piece → Type 0
-TellsBuffer fields buffer status pieces =
-    ((status ≡ Done) × TellsSpelled fields buffer pieces) ⊎ TellsRefused buffer status pieces
+abbrev pub TellsBuffer : (fields : Bool) → (reply : Option CommandCode) → List ℕ → Status → List Piece → Type 0
+TellsBuffer fields reply bytes status pieces =
+    ((status ≡ Done) × TellsSpelled fields reply bytes pieces)
+    ⊎ ((refusal : Refusal) × IsFault reply bytes refusal
+    × (status ≡ status_if (is_buffer_beyond reply bytes refusal))
+    × (pieces ≡ refused_told reply bytes refusal))

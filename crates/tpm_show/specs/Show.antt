@@ -1,6 +1,5 @@
 -- What `show` prints (this profile).
 use Rattle.std.specs.Prelude.{◌≡◌, ◌⊎◌, ℕ, Bool, true, false, List, [], ◌∷◌, ◌++◌, length, codes, Option, Some, None}
-use Rattle.std.specs.Prelude.{option_map}
 use Rattle.std.specs.Fmt.{decimal}
 use Rattle.tpm_wire.specs.declared.refusal.Refusal.{Refusal}
 use Rattle.tpm_wire.specs.Path.{Spells}
@@ -19,8 +18,7 @@ use Rattle.tpm_output.specs.Text.{line, not_hexadecimal_line}
 use Rattle.tpm_show.specs.Areas.{command_rest, reply_rest}
 use Rattle.tpm_show.specs.Digits.{buffer_in}
 use Rattle.tpm_show.specs.FrameLines.{in_lines}
-use Rattle.tpm_show.specs.Refusals.{Buffer, CommandBytes, ReplyBytes, IsFault, buffer_head, is_buffer_beyond}
-use Rattle.tpm_show.specs.Refusals.{refusal_told, refused_told, status_if}
+use Rattle.tpm_show.specs.Refusals.{IsFault, buffer_head, is_buffer_beyond, refusal_told, refused_told, status_if}
 use Rattle.tpm_show.specs.ReplyText.{code_alone_told, reply_line}
 
 -- ---- lines
@@ -43,43 +41,36 @@ response_lines fields code size r (responses.Done body auths) =
 -- ---- what is shown
 
 -- A command or a response that the bytes spell is shown.
-abbrev pub ShowsSpelled : (fields : Bool) → Buffer → List ℕ → Type 0
-ShowsSpelled fields (CommandBytes bytes) text =
+abbrev pub ShowsSpelled : (fields : Bool) → (reply : Option CommandCode) → List ℕ → (text : List ℕ) → Type 0
+ShowsSpelled fields None bytes text =
     (c : Command) × (areas : Cut) × Spells command c bytes × HasCut bytes areas
     × (text ≡ command_lines fields (length bytes) areas c.body)
-ShowsSpelled fields (ReplyBytes code bytes) text =
+ShowsSpelled fields (Some code) bytes text =
     (r : Response) × (areas : ReplyCut) × Spells (response code) r bytes × Spells (reply_cut code) areas bytes
     × (text ≡ response_lines fields code (length bytes) areas r)
 
 -- Without fields a fault is a line alone, and with them what a capture tells of the same frame.
-abbrev pub ShowsRefused : (fields : Bool) → Buffer → Refusal → Status → List ℕ → Type 0
-ShowsRefused false buffer refusal status text =
+abbrev pub ShowsRefused :
+    (fields : Bool) → (reply : Option CommandCode) → List ℕ → Refusal → Status → (text : List ℕ) → Type 0
+ShowsRefused false reply bytes refusal status text =
     (status ≡ Refused) × (text ≡ in_lines false (refusal_told false refusal))
-ShowsRefused true buffer refusal status text =
-    (status ≡ status_if (is_buffer_beyond buffer refusal))
-    × (text ≡ in_lines true (buffer_head buffer ++ refused_told buffer refusal))
+ShowsRefused true reply bytes refusal status text =
+    (status ≡ status_if (is_buffer_beyond reply bytes refusal))
+    × (text ≡ in_lines true (buffer_head reply bytes ++ refused_told reply bytes refusal))
 
--- It is shown, and else their fault.
-abbrev pub ShowsBuffer : (fields : Bool) → Buffer → Status → List ℕ → Type 0
-ShowsBuffer fields buffer status text =
-    ((status ≡ Done) × ShowsSpelled fields buffer text)
-    ⊎ ((refusal : Refusal) × IsFault buffer refusal × ShowsRefused fields buffer refusal status text)
-
--- Where a command is named the bytes are taken for a response to it, and else for a command.
-abbrev pub taken_for : Option CommandCode → List ℕ → Buffer
-taken_for None bytes = CommandBytes bytes
-taken_for (Some code) bytes = ReplyBytes code bytes
-
--- Text that has no buffer is not hexadecimal.
-abbrev pub ShowsDecoded : (fields : Bool) → Option Buffer → Status → List ℕ → Type 0
-ShowsDecoded fields None status text = (status ≡ Refused) × (text ≡ not_hexadecimal_line)
-ShowsDecoded fields (Some buffer) status text = ShowsBuffer fields buffer status text
+-- It is shown, and else their fault. Text that has no buffer is not hexadecimal.
+abbrev pub ShowsBuffer :
+    (fields : Bool) → (reply : Option CommandCode) → Option (List ℕ) → Status → (text : List ℕ) → Type 0
+ShowsBuffer fields reply None status text = (status ≡ Refused) × (text ≡ not_hexadecimal_line)
+ShowsBuffer fields reply (Some bytes) status text =
+    ((status ≡ Done) × ShowsSpelled fields reply bytes text)
+    ⊎ ((refusal : Refusal) × IsFault reply bytes refusal × ShowsRefused fields reply bytes refusal status text)
 
 -- For this text of digits, read as a response to this command where one is named, `show` has this status, and prints
 -- this text.
 abbrev pub Shows : Option CommandCode → List ℕ → Status → List ℕ → Type 0
-Shows reply hex status text = ShowsDecoded false (option_map (taken_for reply) (buffer_in hex)) status text
+Shows reply hex status text = ShowsBuffer false reply (buffer_in hex) status text
 
 -- The same of `show --fields`.
 abbrev pub ShowsFields : Option CommandCode → List ℕ → Status → List ℕ → Type 0
-ShowsFields reply hex status text = ShowsDecoded true (option_map (taken_for reply) (buffer_in hex)) status text
+ShowsFields reply hex status text = ShowsBuffer true reply (buffer_in hex) status text

@@ -1,13 +1,13 @@
 //! The frames of a capture.
 
-ghost use Rattle.std.specs.Prelude.{◌≡◌, ◌++◌, List, IfOk, Some, flat_map};
+ghost use Rattle.std.specs.Prelude.{◌≡◌, ◌++◌, List, IfOk, None, Some, flat_map};
 ghost use Rattle.tpm_show.specs.Capture.{answered_code, awaited_behind, code_number_in, direction_of, is_code_alone};
 ghost use Rattle.tpm_show.specs.Capture.{is_response, untold, TellsFrame, TellsOther, TellsRest};
 ghost use Rattle.tpm_show.specs.inner.Capturing.{frame_as};
 ghost use Rattle.tpm_show.specs.CommandNames.{command_of};
 ghost use Rattle.tpm_show.specs.inner.CommandNames.{listed_as};
 ghost use Rattle.tpm_show.specs.Pieces.{Piece};
-ghost use Rattle.tpm_show.specs.Refusals.{CommandBytes, ReplyBytes, TellsBuffer};
+ghost use Rattle.tpm_show.specs.Refusals.{TellsBuffer};
 ghost use Rattle.tpm_output.specs.declared.status.Status.TheVariants.{Refused};
 
 use crate::capture_lines::Direction;
@@ -16,9 +16,7 @@ use crate::frame_header::{FrameHeader, header_in};
 use crate::library::library_response;
 use crate::passage::{Passage, tell_passage};
 use crate::piece::{LINE_END, says};
-use crate::refused::{
-    status_if, tell_head, tell_refused_command, tell_refused_reply, tell_response_areas,
-};
+use crate::refused::{status_if, tell_head, tell_refused, tell_response_areas};
 use crate::teller::{Teller, tell_pieces};
 use crate::told::{command_and_areas, response_and_areas, tell_command_rest, tell_response_rest};
 use std::alloc::AllocError;
@@ -111,7 +109,7 @@ fn answered_code(awaited: Awaited) -> Option<u32>
 
 fn tell_command<T: Teller>(teller: &mut T, fields: bool, bytes: &[u8]) -> Result<Status, AllocError>
     ensures { IfOk result (λ status. (pieces : List Piece)
-        × TellsBuffer fields (CommandBytes bytes.now) status pieces
+        × TellsBuffer fields None bytes.now status pieces
         × (T.told teller.new ≡ T.told teller.old ++ flat_map T.marks pieces)) }
 {
     match command_and_areas(bytes) {
@@ -119,7 +117,7 @@ fn tell_command<T: Teller>(teller: &mut T, fields: bool, bytes: &[u8]) -> Result
             tell_command_rest(teller, fields, &areas, &command.body)?;
             Ok(Status::Done)
         }
-        Err(refusal) => tell_refused_command(teller, &refusal, bytes),
+        Err(refusal) => tell_refused(teller, None, &refusal, bytes),
     }
 }
 
@@ -130,7 +128,7 @@ fn tell_reply_to<T: Teller>(
     bytes: &[u8],
 ) -> Result<Status, AllocError>
     ensures { IfOk result (λ status. (pieces : List Piece)
-        × TellsBuffer fields (ReplyBytes command bytes.now) status pieces
+        × TellsBuffer fields (Some command) bytes.now status pieces
         × (T.told teller.new ≡ T.told teller.old ++ flat_map T.marks pieces)) }
 {
     match response_and_areas(command, bytes) {
@@ -138,7 +136,7 @@ fn tell_reply_to<T: Teller>(
             tell_response_rest(teller, fields, &areas, &response)?;
             Ok(Status::Done)
         }
-        Err(refusal) => tell_refused_reply(teller, command, &refusal, bytes),
+        Err(refusal) => tell_refused(teller, Some(command), &refusal, bytes),
     }
 }
 

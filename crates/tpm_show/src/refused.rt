@@ -1,9 +1,9 @@
 //! What is told of a buffer that is refused, or beyond this profile.
 
-ghost use Rattle.std.specs.Prelude.{◌≡◌, ◌++◌, IfOk, OnOk, flat_map};
+ghost use Rattle.std.specs.Prelude.{◌≡◌, ◌++◌, None, Some, IfOk, OnOk, flat_map};
 ghost use Rattle.tpm_show.specs.Library.{command_areas_told, response_areas_told};
-ghost use Rattle.tpm_show.specs.Refusals.{CommandBytes, ReplyBytes, code_in, head_told, is_buffer_beyond, refused_told};
-ghost use Rattle.tpm_show.specs.Refusals.{refusal_told, status_if, verdict, verdict_name};
+ghost use Rattle.tpm_show.specs.Refusals.{buffer_head, code_in, head_told, is_buffer_beyond, refusal_told, refused_told};
+ghost use Rattle.tpm_show.specs.Refusals.{status_if, verdict, verdict_name};
 
 use crate::areas::{tell_areas, tell_reply_areas};
 use crate::beyond::is_beyond;
@@ -105,17 +105,17 @@ fn tell_command_areas<T: Teller>(teller: &mut T, areas: &Option<CommandAreas<'_>
     }
 }
 
-/// Tells the fault of a command, and what is behind its header by the library's tables.
+// Tells the fault of a command, and what is behind its header by the library's tables.
 #[tactic(auto, using(crate::proofs::Pieces::pieces))]
-pub(crate) fn tell_refused_command<T: Teller>(
+fn tell_refused_command<T: Teller>(
     teller: &mut T,
     refusal: &Refusal,
     bytes: &[u8],
 ) -> Result<Status, AllocError>
     ensures { IfOk result (λ status.
-        (status ≡ status_if (is_buffer_beyond (CommandBytes bytes.now) refusal.now))
+        (status ≡ status_if (is_buffer_beyond None bytes.now refusal.now))
         × (T.told teller.new ≡ T.told teller.old
-        ++ flat_map T.marks (refused_told (CommandBytes bytes.now) refusal.now))) }
+        ++ flat_map T.marks (refused_told None bytes.now refusal.now))) }
 {
     let header = header_in(bytes);
     let areas = library_command(bytes, header);
@@ -141,18 +141,18 @@ pub(crate) fn tell_response_areas<T: Teller>(
     }
 }
 
-/// Tells the fault of a response to this command, and what is behind its header by the library's tables.
+// Tells the fault of a response to this command, and what is behind its header by the library's tables.
 #[tactic(auto, using(crate::proofs::Pieces::pieces))]
-pub(crate) fn tell_refused_reply<T: Teller>(
+fn tell_refused_reply<T: Teller>(
     teller: &mut T,
     command: CommandCode,
     refusal: &Refusal,
     bytes: &[u8],
 ) -> Result<Status, AllocError>
     ensures { IfOk result (λ status.
-        (status ≡ status_if (is_buffer_beyond (ReplyBytes command bytes.now) refusal.now))
+        (status ≡ status_if (is_buffer_beyond (Some command) bytes.now refusal.now))
         × (T.told teller.new ≡ T.told teller.old
-        ++ flat_map T.marks (refused_told (ReplyBytes command bytes.now) refusal.now))) }
+        ++ flat_map T.marks (refused_told (Some command) bytes.now refusal.now))) }
 {
     let code = command.number();
     let areas = library_response(command_of(code), bytes, header_in(bytes));
@@ -160,4 +160,40 @@ pub(crate) fn tell_refused_reply<T: Teller>(
     tell_refusal(teller, beyond, refusal)?;
     tell_response_areas(teller, &areas)?;
     Ok(status_if(beyond))
+}
+
+// ---- either
+
+/// Tells what the header says of bytes that are taken for a response to this command, or for a command.
+pub(crate) fn tell_buffer_head<T: Teller>(
+    teller: &mut T,
+    reply: Option<CommandCode>,
+    bytes: &[u8],
+) -> Pushed
+    ensures { OnOk result (T.told teller.new
+        ≡ T.told teller.old ++ flat_map T.marks (buffer_head reply bytes.now)) }
+{
+    let header = header_in(bytes);
+    match reply {
+        Some(command) => tell_head(teller, Direction::Reply, Some(command.number()), header),
+        None => tell_head(teller, Direction::Command, None, header),
+    }
+}
+
+/// Tells their fault, and what is behind their header by the library's tables.
+pub(crate) fn tell_refused<T: Teller>(
+    teller: &mut T,
+    reply: Option<CommandCode>,
+    refusal: &Refusal,
+    bytes: &[u8],
+) -> Result<Status, AllocError>
+    ensures { IfOk result (λ status.
+        (status ≡ status_if (is_buffer_beyond reply bytes.now refusal.now))
+        × (T.told teller.new ≡ T.told teller.old
+        ++ flat_map T.marks (refused_told reply bytes.now refusal.now))) }
+{
+    match reply {
+        Some(command) => tell_refused_reply(teller, command, refusal, bytes),
+        None => tell_refused_command(teller, refusal, bytes),
+    }
 }

@@ -1,10 +1,10 @@
 //! The subcommand `show` of a buffer.
 
-ghost use Rattle.std.specs.Prelude.{ℕ, List, IfOk, option_map, string_bytes};
+ghost use Rattle.std.specs.Prelude.{ℕ, List, IfOk, string_bytes};
 ghost use Rattle.std.specs.Io.KnownBytes.{Appends};
 ghost use Rattle.tpm_output.specs.Faults.{FailsByMemoryOrWrite};
 ghost use Rattle.tpm_show.specs.Digits.{buffer_in};
-ghost use Rattle.tpm_show.specs.Show.{Shows, ShowsDecoded, ShowsFields, taken_for};
+ghost use Rattle.tpm_show.specs.Show.{Shows, ShowsBuffer, ShowsFields};
 
 use crate::digits::read_buffer;
 use crate::told::{answer_to_command, answer_to_reply};
@@ -21,8 +21,7 @@ fn answer<const FIELDS: bool>(
     hex: &str,
 ) -> Result<Answer, AllocError>
     ensures { IfOk result (λ a.
-        ShowsDecoded FIELDS (option_map (taken_for reply) (buffer_in hex.now))
-        a.status (string_bytes a.text)) }
+        ShowsBuffer FIELDS reply (buffer_in hex.now) a.status (string_bytes a.text)) }
 {
     let Some(bytes) = read_buffer(alloc, hex.as_bytes())? else {
         return Answer::not_hexadecimal(alloc);

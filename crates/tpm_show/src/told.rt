@@ -1,25 +1,20 @@
 //! What is told of a buffer.
 
-ghost use Rattle.std.specs.Prelude.{◌≡◌, ◌++◌, true, false, IfOk, IfErr, OnOk, flat_map, string_bytes};
+ghost use Rattle.std.specs.Prelude.{◌≡◌, ◌++◌, None, Some, IfOk, IfErr, OnOk, flat_map, string_bytes};
 ghost use Rattle.tpm_wire.specs.Path.{Fault, Spells};
 ghost use Rattle.tpm_buffer.specs.Commands.{command};
 ghost use Rattle.tpm_buffer.specs.CommandAreas.{HasCut};
 ghost use Rattle.tpm_buffer.specs.Responses.{reply_cut, response};
-ghost use Rattle.tpm_output.specs.declared.status.Status.TheVariants.{Refused};
 ghost use Rattle.tpm_show.specs.Areas.{command_rest, reply_rest, response_rest};
 ghost use Rattle.tpm_show.specs.Fields.{command_fields, reply_fields};
 ghost use Rattle.tpm_show.specs.FieldText.{fields_told};
-ghost use Rattle.tpm_show.specs.FrameLines.{in_lines};
-ghost use Rattle.tpm_show.specs.Refusals.{CommandBytes, ReplyBytes, refusal_told};
 ghost use Rattle.tpm_show.specs.Show.{ShowsBuffer, ShowsRefused, command_line, command_lines, response_lines};
 
 use crate::areas::{tell_areas, tell_parameters};
-use crate::capture_lines::Direction;
 use crate::fields::{tell_command_fields, tell_reply_fields};
-use crate::frame_header::header_in;
 use crate::lines::Lines;
 use crate::piece::{Piece, Shape};
-use crate::refused::{tell_head, tell_refusal, tell_refused_command, tell_refused_reply};
+use crate::refused::{tell_buffer_head, tell_refusal, tell_refused};
 use crate::reply_text::{push_name, tell_code_alone, tell_first_handle};
 use crate::sessions::tell_sessions;
 use crate::teller::Teller;
@@ -34,14 +29,28 @@ use tpm_output::text::Pushed;
 use tpm_types::CommandCode;
 use tpm_wire::Refusal;
 
-// The line of a fault.
-fn refused_line(alloc: Global, refusal: &Refusal) -> Result<Answer, AllocError>
-    ensures { IfOk result (λ a. (a.status ≡ Refused)
-        × (string_bytes a.text ≡ in_lines false (refusal_told false refusal.now))) }
+// The line of a fault, or where fields are asked for the lines that a capture tells.
+#[tactic(auto, using(crate::proofs::Pieces::pieces))]
+fn refused<const FIELDS: bool>(
+    alloc: Global,
+    reply: Option<CommandCode>,
+    refusal: &Refusal,
+    bytes: &[u8],
+) -> Result<Answer, AllocError>
+    ensures { IfOk result (λ a.
+        ShowsRefused FIELDS reply bytes.now refusal.now a.status (string_bytes a.text)) }
 {
-    let mut lines = Lines::<false>::new(alloc);
-    tell_refusal(&mut lines, false, refusal)?;
-    Ok(Answer::refused(lines.text))
+    let mut lines = Lines::<FIELDS>::new(alloc);
+    if !FIELDS {
+        tell_refusal(&mut lines, false, refusal)?;
+        return Ok(Answer::refused(lines.text));
+    }
+    tell_buffer_head(&mut lines, reply, bytes)?;
+    let status = tell_refused(&mut lines, reply, refusal, bytes)?;
+    Ok(Answer {
+        status,
+        text: lines.text,
+    })
 }
 
 // ---- a command
@@ -109,46 +118,13 @@ fn push_command_lines<const FIELDS: bool>(
     tell_command_rest(text, FIELDS, areas, body)
 }
 
-// The lines of a command's fault, and of what a capture tells of it.
-fn refused_command_lines(
-    alloc: Global,
-    refusal: &Refusal,
-    bytes: &[u8],
-) -> Result<Answer, AllocError>
-    ensures { IfOk result (λ a.
-        ShowsRefused true (CommandBytes bytes.now) refusal.now a.status (string_bytes a.text)) }
-{
-    let mut lines = Lines::<true>::new(alloc);
-    tell_head(&mut lines, Direction::Command, None, header_in(bytes))?;
-    let status = tell_refused_command(&mut lines, refusal, bytes)?;
-    Ok(Answer {
-        status,
-        text: lines.text,
-    })
-}
-
-fn refused_command<const FIELDS: bool>(
-    alloc: Global,
-    refusal: &Refusal,
-    bytes: &[u8],
-) -> Result<Answer, AllocError>
-    ensures { IfOk result (λ a.
-        ShowsRefused FIELDS (CommandBytes bytes.now) refusal.now a.status (string_bytes a.text)) }
-{
-    if FIELDS {
-        refused_command_lines(alloc, refusal, bytes)
-    } else {
-        refused_line(alloc, refusal)
-    }
-}
-
 /// The lines of bytes that are taken for a command.
 pub(crate) fn answer_to_command<const FIELDS: bool>(
     alloc: Global,
     bytes: &[u8],
 ) -> Result<Answer, AllocError>
     ensures { IfOk result
-        (λ a. ShowsBuffer FIELDS (CommandBytes bytes.now) a.status (string_bytes a.text)) }
+        (λ a. ShowsBuffer FIELDS None (Some bytes.now) a.status (string_bytes a.text)) }
 {
     match command_and_areas(bytes) {
         Ok((command, areas)) => {
@@ -156,7 +132,7 @@ pub(crate) fn answer_to_command<const FIELDS: bool>(
             push_command_lines(&mut lines, bytes.len(), &areas, &command.body)?;
             Ok(Answer::done(lines.text))
         }
-        Err(refusal) => refused_command::<FIELDS>(alloc, &refusal, bytes),
+        Err(refusal) => refused::<FIELDS>(alloc, None, &refusal, bytes),
     }
 }
 
@@ -243,46 +219,6 @@ fn push_response_lines<const FIELDS: bool>(
     }
 }
 
-// The lines of a response's fault, and of what a capture tells of it.
-fn refused_reply_lines(
-    alloc: Global,
-    command: CommandCode,
-    refusal: &Refusal,
-    bytes: &[u8],
-) -> Result<Answer, AllocError>
-    ensures { IfOk result (λ a. ShowsRefused true (ReplyBytes command bytes.now) refusal.now
-        a.status (string_bytes a.text)) }
-{
-    let mut lines = Lines::<true>::new(alloc);
-    tell_head(
-        &mut lines,
-        Direction::Reply,
-        Some(command.number()),
-        header_in(bytes),
-    )?;
-    let status = tell_refused_reply(&mut lines, command, refusal, bytes)?;
-    Ok(Answer {
-        status,
-        text: lines.text,
-    })
-}
-
-fn refused_reply<const FIELDS: bool>(
-    alloc: Global,
-    command: CommandCode,
-    refusal: &Refusal,
-    bytes: &[u8],
-) -> Result<Answer, AllocError>
-    ensures { IfOk result (λ a. ShowsRefused FIELDS (ReplyBytes command bytes.now) refusal.now
-        a.status (string_bytes a.text)) }
-{
-    if FIELDS {
-        refused_reply_lines(alloc, command, refusal, bytes)
-    } else {
-        refused_line(alloc, refusal)
-    }
-}
-
 /// The lines of bytes that are taken for a response to this command.
 pub(crate) fn answer_to_reply<const FIELDS: bool>(
     alloc: Global,
@@ -290,7 +226,7 @@ pub(crate) fn answer_to_reply<const FIELDS: bool>(
     bytes: &[u8],
 ) -> Result<Answer, AllocError>
     ensures { IfOk result
-        (λ a. ShowsBuffer FIELDS (ReplyBytes command bytes.now) a.status (string_bytes a.text)) }
+        (λ a. ShowsBuffer FIELDS (Some command) (Some bytes.now) a.status (string_bytes a.text)) }
 {
     match response_and_areas(command, bytes) {
         Ok((response, areas)) => {
@@ -298,6 +234,6 @@ pub(crate) fn answer_to_reply<const FIELDS: bool>(
             push_response_lines(&mut lines, command, bytes.len(), &areas, &response)?;
             Ok(Answer::done(lines.text))
         }
-        Err(refusal) => refused_reply::<FIELDS>(alloc, command, &refusal, bytes),
+        Err(refusal) => refused::<FIELDS>(alloc, Some(command), &refusal, bytes),
     }
 }

@@ -1,7 +1,7 @@
-use Rattle.std.proofs.Common.{refl, inl, inr}
+use Rattle.std.proofs.Common.{None, refl, inl, inr}
 use Rattle.std.proofs.lemmas.Result.{IfOk-weaker}
 use Rattle.tpm_show.specs.Areas.{command_rest}
-use Rattle.tpm_show.specs.Refusals.{CommandBytes, refused_told}
+use Rattle.tpm_show.specs.Refusals.{refused_told}
 use Rattle.tpm_show.proofs.capture_frames.tell_command.Goals as goal
 
 pub returns-in_ok-tell_command_rest-in-Ok : goal.returns-in_ok-tell_command_rest-in-Ok
@@ -14,8 +14,8 @@ returns-in_ok-tell_command_rest-in-Ok g c = (
 pub returns-in-Err : goal.returns-in-Err
 returns-in-Err g c =
     let refusal = c.in-Err.refusal in
-    IfOk-weaker c.tell_refused_command.result _ _ (λ status told. (
-      refused_told (CommandBytes c.args.bytes.now) refusal,
+    IfOk-weaker c.tell_refused.result _ _ (λ status told. (
+      refused_told None c.args.bytes.now refusal,
       inr (refusal, c.in-Err.ensures.err, told.0, refl),
       told.1,
-    )) c.tell_refused_command.ensures
+    )) c.tell_refused.ensures
