@@ -17,7 +17,8 @@ use Rattle.tpm_show.specs.declared.built.Part.TheVariants.{Header, Handles, Sess
 use Rattle.tpm_show.specs.declared.built.Part.{Part}
 use Rattle.tpm_show.specs.declared.built.Lengths.{Lengths}
 use Rattle.tpm_show.specs.declared.built.Place.{Place}
-use Rattle.tpm_show.specs.Headers.{behind_space, code_text}
+use Rattle.tpm_names.specs.Codes.{name_of_code}
+use Rattle.tpm_show.specs.Headers.{behind_space}
 
 -- a command, and the texts of its handles, its sessions and its parameters
 pub record CommandParts : Type 0 where
@@ -109,7 +110,7 @@ refused_in place =
     codes "refused in the " ++ (part_name place.part ++ (codes " at " ++ (decimal place.at ++ codes ":")))
 
 abbrev pub refused_remark : Place → (code : ℕ) → List ℕ
-refused_remark place code = refused_in place ++ (behind_space (code_text code) ++ codes "\n")
+refused_remark place code = refused_in place ++ (behind_space (name_of_code code) ++ codes "\n")
 
 unfoldable pub digits_remark : Part → List ℕ
 digits_remark part = codes "the " ++ (part_name part ++ codes " are not hexadecimal\n")

@@ -1,7 +1,7 @@
 -- The header of a frame, whatever a profile has of it, and what is told of it (Part 1, "Command/Response Structure";
 -- this profile).
 use Rattle.std.specs.Prelude.{ℕ, List, [], ◌∷◌, ◌++◌, length, take, nat_lt, codes, Option, Some}
-use Rattle.std.specs.Prelude.{None, Result, Ok, Err, if◌then◌else◌, option_map}
+use Rattle.std.specs.Prelude.{None, Result, Ok, Err, if◌then◌else◌}
 use Rattle.std.specs.Int.{to_be_bytes, w16, w32}
 use Rattle.tpm_wire.specs.declared.refusal.Refusal.{Refusal}
 use Rattle.tpm_wire.specs.Token.{Here, at_start}
@@ -12,7 +12,7 @@ use Rattle.tpm_output.specs.Named.{named_in, table_as}
 use Rattle.tpm_show.specs.declared.frame_header.TheConstants.{TAG_NAMES}
 use Rattle.tpm_show.specs.declared.frame_header.FrameHeader.{FrameHeader}
 use Rattle.tpm_show.specs.CommandNames.{Listed, command_of}
-use Rattle.tpm_names.specs.Codes.{code_name, meaning_of}
+use Rattle.tpm_names.specs.Codes.{name_of_code}
 use Rattle.tpm_show.specs.declared.piece.How.TheVariants as how
 use Rattle.tpm_show.specs.Pieces.{Value, Word, Number, Code, Bytes, Piece, line_end, says, word_told, words}
 
@@ -46,10 +46,6 @@ abbrev pub name_or_number : Option Listed → ℕ → Value
 name_or_number (Some c) code = Word c.name
 name_or_number None code = Bytes (to_be_bytes w32 code)
 
--- that of a response code, where it has one
-abbrev pub code_text : ℕ → Option (List ℕ)
-code_text code = option_map (code_name code) (meaning_of code)
-
 abbrev pub behind_space : (name : Option (List ℕ)) → List ℕ
 behind_space None = []
 behind_space (Some name) = codes " " ++ name
@@ -76,4 +72,4 @@ answered (Some code) = command_told code ∷ []
 unfoldable pub reply_head : (command : Option ℕ) → FrameHeader → List Piece
 reply_head command h = words (codes "reply") ∷ (answered command ++ (size_and_tag h
     ++ says how.Under (codes "code") (Code h.code)
-    ∷ (word_told how.Behind (codes "code_name") (code_text h.code) ++ line_end ∷ [])))
+    ∷ (word_told how.Behind (codes "code_name") (name_of_code h.code) ++ line_end ∷ [])))

@@ -19,8 +19,9 @@ use Rattle.tpm_show.specs.declared.frame_header.FrameHeader.{FrameHeader}
 use Rattle.tpm_show.specs.Areas.{command_rest, response_rest}
 use Rattle.tpm_show.specs.Beyond.{is_beyond}
 use Rattle.tpm_show.specs.CommandNames.{command_of}
+use Rattle.tpm_names.specs.Codes.{name_of_code}
 use Rattle.tpm_show.specs.declared.piece.How.TheVariants as how
-use Rattle.tpm_show.specs.Headers.{code_text, command_head, header_in, reply_head}
+use Rattle.tpm_show.specs.Headers.{command_head, header_in, reply_head}
 use Rattle.tpm_show.specs.Library.{command_areas_told, library_command, library_response, response_areas_told}
 use Rattle.tpm_show.specs.Pieces.{Code, Number, Piece, asked_told, line_end, says, word_told, words}
 
@@ -74,8 +75,8 @@ verdict_name true = codes "beyond"
 -- a response code, its name where Part 2 has one (6.6), which ends the line, and how many bytes precede the fault
 unfoldable pub refusal_told : (beyond : Bool) → Refusal → List Piece
 refusal_told beyond refusal = words (verdict beyond) ∷ says how.Behind (verdict_name beyond) (Code refusal.code)
-    ∷ (word_told how.Nowhere (codes "fault") (code_text refusal.code)
-    ++ says how.Under (codes "at") (Number refusal.at) ∷ (asked_told (code_text refusal.code) ++ line_end ∷ []))
+    ∷ (word_told how.Nowhere (codes "fault") (name_of_code refusal.code)
+    ++ says how.Under (codes "at") (Number refusal.at) ∷ (asked_told (name_of_code refusal.code) ++ line_end ∷ []))
 
 abbrev pub refused_told : (reply : Option CommandCode) → List ℕ → Refusal → List Piece
 refused_told reply bytes refusal =

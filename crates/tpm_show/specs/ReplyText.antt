@@ -5,13 +5,13 @@ use Rattle.tpm_types.specs.declared.command_code.CommandCode.{CommandCode}
 use Rattle.tpm_types.specs.CommandCodes.{code_name}
 use Rattle.tpm_output.specs.Text.{line}
 use Rattle.tpm_show.specs.declared.piece.How.TheVariants as how
-use Rattle.tpm_show.specs.Headers.{code_text}
+use Rattle.tpm_names.specs.Codes.{name_of_code}
 use Rattle.tpm_show.specs.Pieces.{Code, Piece, InLine, asked_told, line_end, words}
 
 -- a code that has nothing behind it
 unfoldable pub code_alone_told : ℕ → List Piece
 code_alone_told code =
-    words (codes "reply code") ∷ InLine how.Behind (Code code) ∷ (asked_told (code_text code) ++ line_end ∷ [])
+    words (codes "reply code") ∷ InLine how.Behind (Code code) ∷ (asked_told (name_of_code code) ++ line_end ∷ [])
 
 unfoldable pub reply_line : CommandCode → ℕ → List ℕ
 reply_line command size = line (codes "reply" ∷ code_name command ∷ codes "size" ∷ decimal size ∷ [])

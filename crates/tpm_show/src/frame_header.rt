@@ -2,10 +2,10 @@
 
 ghost use Rattle.std.specs.Prelude.{◌≡◌, ◌++◌, IfOk, OnOk, flat_map, option_map, string_bytes};
 ghost use Rattle.tpm_wire.specs.Buffers.{Takes};
-ghost use Rattle.tpm_names.specs.Codes.{code_name};
+ghost use Rattle.tpm_names.specs.Codes.{code_name, name_of_code};
 ghost use Rattle.tpm_names.specs.Meanings.{meaning_as};
-ghost use Rattle.tpm_show.specs.Headers.{answered, behind_space, code_text, command_head, command_told, frame_header};
-ghost use Rattle.tpm_show.specs.Headers.{header_in, reply_head, size_and_tag, tag_named};
+ghost use Rattle.tpm_show.specs.Headers.{answered, behind_space, command_head, command_told, frame_header, header_in};
+ghost use Rattle.tpm_show.specs.Headers.{reply_head, size_and_tag, tag_named};
 ghost use Rattle.tpm_show.specs.Pieces.{asked_told, word_told};
 
 use crate::command_names::command_of;
@@ -78,7 +78,7 @@ fn push_meaning_name(text: &mut String, code: u32, meaning: &Meaning) -> Pushed
 #[tactic(auto, using(std::proofs::Common::append_assoc))]
 pub(crate) fn push_code_name(text: &mut String, code: u32) -> Pushed
     ensures { OnOk result
-        (string_bytes text.new ≡ string_bytes text.old ++ behind_space (code_text code)) }
+        (string_bytes text.new ≡ string_bytes text.old ++ behind_space (name_of_code code)) }
 {
     let Some(meaning) = code_meaning(code) else {
         return Ok(());
@@ -98,7 +98,7 @@ fn meaning_name(alloc: Global, code: u32, meaning: &Meaning) -> Result<String, A
 /// Tells the name of a response code under this name, where it has one.
 pub(crate) fn tell_code_name<T: Teller>(teller: &mut T, how: How, member: &str, code: u32) -> Pushed
     ensures { OnOk result (T.told teller.new ≡ T.told teller.old
-        ++ flat_map T.marks (word_told how member.now (code_text code))) }
+        ++ flat_map T.marks (word_told how member.now (name_of_code code))) }
 {
     let Some(meaning) = code_meaning(code) else {
         return Ok(());
@@ -110,7 +110,7 @@ pub(crate) fn tell_code_name<T: Teller>(teller: &mut T, how: How, member: &str, 
 /// Tells the same in a line alone, where names are asked for.
 pub(crate) fn tell_code_in_line<T: Teller>(teller: &mut T, code: u32) -> Pushed
     ensures { OnOk result (T.told teller.new
-        ≡ T.told teller.old ++ flat_map T.marks (asked_told (code_text code))) }
+        ≡ T.told teller.old ++ flat_map T.marks (asked_told (name_of_code code))) }
 {
     let Some(meaning) = code_meaning(code) else {
         return Ok(());
