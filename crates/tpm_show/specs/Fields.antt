@@ -1,5 +1,5 @@
 -- The parameters of commands and replies, each by its name and its type, and what stands in it (this profile).
-use Rattle.std.specs.Prelude.{List, [], ◌∷◌, codes as text, Option, Some, None}
+use Rattle.std.specs.Prelude.{List, [], ◌∷◌, codes as text, flat_map, Option, Some, None}
 use Rattle.tpm_commands.specs.declared.command.CommandBody.{CommandBody}
 use Rattle.tpm_commands.specs.declared.command.ReplyBody.{ReplyBody}
 use Rattle.tpm_commands.specs.Table.{row}
@@ -8,7 +8,7 @@ use Rattle.tpm_commands.specs.Replies.{code_for_reply, parameters_of_reply}
 use Rattle.tpm_commands.specs.declared.command.CommandBody.TheVariants as bodies
 use Rattle.tpm_commands.specs.declared.command.ReplyBody.TheVariants as replies
 use Rattle.tpm_buffer.specs.Commands.{code_for, params_of}
-use Rattle.tpm_show.specs.Parts.{public_parts, selection_parts, digest_parts, digest_value_parts, symmetric_parts}
+use Rattle.tpm_show.specs.Parts.{digest_entry, digest_value_entry, public_parts, selection_entry, symmetric_parts}
 use Rattle.tpm_show.specs.FieldText.{fields_from, parts}
 use Rattle.tpm_show.specs.Pieces.{Piece}
 
@@ -17,20 +17,20 @@ use Rattle.tpm_show.specs.Pieces.{Piece}
 -- the parts of each parameter of a command, where they are told
 abbrev pub command_insides : CommandBody → List (Option (List Piece))
 command_insides (bodies.NvDefineSpace asked) = None ∷ Some (public_parts asked.public) ∷ []
-command_insides (bodies.PolicyOr session digests) = Some (digest_parts digests) ∷ []
+command_insides (bodies.PolicyOr session digests) = Some (flat_map digest_entry digests) ∷ []
 command_insides (bodies.StartAuthSession start) =
     None ∷ None ∷ None ∷ Some (symmetric_parts start.params.symmetric) ∷ []
-command_insides (bodies.PcrRead selections) = Some (selection_parts selections) ∷ []
-command_insides (bodies.PolicyPcr session asked) = None ∷ Some (selection_parts asked.selections) ∷ []
-command_insides (bodies.PcrExtend register digests) = Some (digest_value_parts digests) ∷ []
+command_insides (bodies.PcrRead selections) = Some (flat_map selection_entry selections) ∷ []
+command_insides (bodies.PolicyPcr session asked) = None ∷ Some (flat_map selection_entry asked.selections) ∷ []
+command_insides (bodies.PcrExtend register digests) = Some (flat_map digest_value_entry digests) ∷ []
 command_insides _ = []
 
 -- the parts of each parameter of a reply, where they are told
 abbrev pub reply_insides : ReplyBody → List (Option (List Piece))
-reply_insides (replies.PcrEvent digests) = Some (digest_value_parts digests) ∷ []
+reply_insides (replies.PcrEvent digests) = Some (flat_map digest_value_entry digests) ∷ []
 reply_insides (replies.NvReadPublic public name) = Some (public_parts public) ∷ []
 reply_insides (replies.PcrRead update_counter selections digests) =
-    None ∷ Some (selection_parts selections) ∷ Some (digest_parts digests) ∷ []
+    None ∷ Some (flat_map selection_entry selections) ∷ Some (flat_map digest_entry digests) ∷ []
 reply_insides _ = []
 
 -- ---- all of them

@@ -19,15 +19,11 @@ use Rattle.tpm_show.specs.Pieces.{Piece}
 
 -- ---- TPMA_NV (13.4)
 
--- its bits by their numbers
-abbrev pub attribute_names : List Named
-attribute_names = table_as ATTRIBUTES
-
 abbrev pub set_attribute : Named → List Piece
 set_attribute bit = number_told (text "      ") bit.name 1
 
 unfoldable pub attributes_set : ℕ → List Named
-attributes_set attrs = bits_set attribute_names attrs
+attributes_set attrs = bits_set (table_as ATTRIBUTES) attrs
 
 -- the field TPM_NT, whatever it is, and each bit that is set
 unfoldable pub attribute_parts : ℕ → List Piece
@@ -75,16 +71,10 @@ abbrev pub selection_entry : Selection → List Piece
 selection_entry s = structure_told (text "    ")
     (named (text "pcrSelections") (text "TPMS_PCR_SELECTION")) (spelling selection s) (selection_members s)
 
-abbrev pub selection_parts : List Selection → List Piece
-selection_parts selections = flat_map selection_entry selections
-
 -- ---- TPML_DIGEST (10.9.5)
 
 abbrev pub digest_entry : List ℕ → List Piece
 digest_entry d = value_told (text "    ") (named (text "digests") (text "TPM2B_DIGEST")) (spelling digest d)
-
-abbrev pub digest_parts : List (List ℕ) → List Piece
-digest_parts digests = flat_map digest_entry digests
 
 -- ---- TPML_DIGEST_VALUES (10.9.6), whose entries are TPMT_HA (10.3.2)
 
@@ -97,9 +87,6 @@ digest_value_members d = fields_from (text "      ") digest_value_names (parts d
 abbrev pub digest_value_entry : Alg × List ℕ → List Piece
 digest_value_entry d = structure_told (text "    ")
     (named (text "digests") (text "TPMT_HA")) (spelling digest_value d) (digest_value_members d)
-
-abbrev pub digest_value_parts : List (Alg × List ℕ) → List Piece
-digest_value_parts digests = flat_map digest_value_entry digests
 
 -- ---- TPMT_SYM_DEF (11.1.6)
 

@@ -28,13 +28,9 @@ of_reply auth = record { handle = None; nonce = auth.nonce; attributes = auth.at
 
 -- ---- TPMA_SESSION (8.4)
 
--- its bits by their numbers
-abbrev pub attribute_names : List Named
-attribute_names = table_as ATTRIBUTES
-
--- those that are set
+-- the bits that are set, by their names
 unfoldable pub attributes_set : ℕ → List Named
-attributes_set attributes = bits_set attribute_names attributes
+attributes_set attributes = bits_set (table_as ATTRIBUTES) attributes
 
 -- ---- what is told of a session
 
