@@ -1,5 +1,5 @@
 -- What stands behind the header of a frame, whether the profile has its command or the library's table (this profile).
-use Rattle.std.specs.Prelude.{ℕ, Bool, List, [], ◌∷◌, ◌++◌, codes, map}
+use Rattle.std.specs.Prelude.{ℕ, Bool, List, [], ◌∷◌, ◌++◌, codes, map, option_to_list}
 use Rattle.tpm_commands.specs.declared.command.CommandBody.{CommandBody}
 use Rattle.tpm_commands.specs.declared.command.ReplyBody.{ReplyBody}
 use Rattle.tpm_commands.specs.declared.response.Response.{Response}
@@ -7,7 +7,6 @@ use Rattle.tpm_commands.specs.declared.response.Response.TheVariants as response
 use Rattle.tpm_buffer.specs.CommandAreas.{Cut}
 use Rattle.tpm_buffer.specs.ResponseAreas.{handle_of}
 use Rattle.tpm_buffer.specs.Responses.{ReplyCut}
-use Rattle.tpm_show.specs.ReplyText.{handles_of}
 use Rattle.tpm_show.specs.Fields.{command_fields, reply_fields}
 use Rattle.tpm_show.specs.declared.piece.How.TheVariants as how
 use Rattle.tpm_show.specs.FieldText.{fields_told}
@@ -23,10 +22,6 @@ parameters_told bytes = words (codes "parameters") ∷ says how.Behind (codes "p
 abbrev pub areas_told : (handles : List ℕ) → List ShownSession → (params : List ℕ) → List Piece
 areas_told handles sessions params = handles_told handles ++ (sessions_told sessions ++ parameters_told params)
 
--- what stands behind a response's header: its handles, its parameters as they came, and its sessions
-abbrev pub reply_areas_told : (handles params : List ℕ) → List ShownSession → List Piece
-reply_areas_told handles params sessions = handles_told handles ++ (parameters_told params ++ sessions_told sessions)
-
 -- a command, and where this is asked for its parameters by their names and their types
 abbrev pub command_rest : (fields : Bool) → Cut → CommandBody → List Piece
 command_rest fields areas body =
@@ -35,7 +30,7 @@ command_rest fields areas body =
 -- a reply: its handle, its parameters likewise, and its sessions
 abbrev pub reply_rest : (fields : Bool) → ReplyCut → ReplyBody → List Piece
 reply_rest fields r body =
-    handles_told (handles_of (handle_of r))
+    handles_told (option_to_list (handle_of r))
     ++ (parameters_told r.params
     ++ (fields_told fields (reply_fields body) ++ sessions_told (map of_reply r.auths)))
 

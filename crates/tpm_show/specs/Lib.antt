@@ -1,5 +1,4 @@
 pub mod Digits
-pub mod ReplyText
 pub mod HandleNames
 pub mod FieldNames
 pub mod FieldText

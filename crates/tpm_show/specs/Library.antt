@@ -1,6 +1,6 @@
 -- What stands behind the header of a frame, by how many handles a command of the library or its response has (Part 1,
 -- "Command/Response Structure"; Part 3, the tables of each). Its parameters are not judged.
-use Rattle.std.specs.Prelude.{ℕ, ◌*◌, ◌+◌, true, List, [], length, drop, map, Option, Some, None, ◌==◌, ◌&&◌}
+use Rattle.std.specs.Prelude.{ℕ, ◌*◌, ◌+◌, true, List, [], ◌++◌, length, drop, map, Option, Some, None, ◌==◌, ◌&&◌}
 use Rattle.std.specs.Prelude.{false, Result, Ok, Err, nat_le, if◌then◌else◌}
 use Rattle.tpm_wire.specs.declared.refusal.Refusal.{Refusal}
 use Rattle.tpm_wire.specs.Buffers.{Layout, any_number, numbered}
@@ -15,8 +15,9 @@ use Rattle.tpm_buffer.specs.Responses.{parameter_size}
 use Rattle.tpm_show.specs.declared.frame_header.FrameHeader.{FrameHeader}
 use Rattle.tpm_show.specs.CommandNames.{Listed, command_of}
 use Rattle.tpm_show.specs.Pieces.{Piece}
-use Rattle.tpm_show.specs.Sessions.{of_command, of_reply}
-use Rattle.tpm_show.specs.Areas.{areas_told, reply_areas_told}
+use Rattle.tpm_show.specs.HandleNames.{handles_told}
+use Rattle.tpm_show.specs.Sessions.{of_command, of_reply, sessions_told}
+use Rattle.tpm_show.specs.Areas.{areas_told, parameters_told}
 
 -- ---- what commands and responses share
 
@@ -103,4 +104,5 @@ command_areas_told (Some a) = areas_told a.handles (map of_command a.auths) a.pa
 
 abbrev pub response_areas_told : Option ResponseAreas → List Piece
 response_areas_told None = []
-response_areas_told (Some a) = reply_areas_told a.handles a.params (map of_reply a.auths)
+response_areas_told (Some a) =
+    handles_told a.handles ++ (parameters_told a.params ++ sessions_told (map of_reply a.auths))

@@ -15,28 +15,35 @@ use Rattle.tpm_buffer.specs.Responses.{ReplyCut, reply_cut, response}
 use Rattle.tpm_output.specs.declared.status.Status.TheVariants.{Done, Refused}
 use Rattle.tpm_output.specs.declared.status.Status.{Status}
 use Rattle.tpm_output.specs.Text.{line, not_hexadecimal_line}
+use Rattle.tpm_names.specs.Codes.{name_of_code}
+use Rattle.tpm_show.specs.declared.piece.How.TheVariants as how
 use Rattle.tpm_show.specs.Areas.{command_rest, reply_rest}
 use Rattle.tpm_show.specs.Digits.{buffer_in}
 use Rattle.tpm_show.specs.FrameLines.{in_lines}
+use Rattle.tpm_show.specs.Pieces.{Code, Piece, InLine, asked_told, line_end, words}
 use Rattle.tpm_show.specs.Refusals.{IsFault, buffer_head, is_buffer_beyond, refusal_told, refused_told, status_if}
-use Rattle.tpm_show.specs.ReplyText.{code_alone_told, reply_line}
 
 -- ---- lines
 
--- the first line of a command of so many bytes
-unfoldable pub command_line : CommandCode → ℕ → List ℕ
-command_line code size = line (codes "command" ∷ code_name code ∷ codes "size" ∷ decimal size ∷ [])
+-- the first line of a buffer of so many bytes: a command, or the reply to it
+unfoldable pub first_line : (kind : List ℕ) → CommandCode → ℕ → List ℕ
+first_line kind code size = line (kind ∷ code_name code ∷ codes "size" ∷ decimal size ∷ [])
+
+-- a code that has nothing behind it
+unfoldable pub code_alone_told : ℕ → List Piece
+code_alone_told code =
+    words (codes "reply code") ∷ InLine how.Behind (Code code) ∷ (asked_told (name_of_code code) ++ line_end ∷ [])
 
 -- a command of so many bytes, and where these are asked for with names
 unfoldable pub command_lines : (fields : Bool) → ℕ → Cut → CommandBody → List ℕ
 command_lines fields size areas body =
-    command_line areas.header.code size ++ in_lines fields (command_rest fields areas body)
+    first_line (codes "command") areas.header.code size ++ in_lines fields (command_rest fields areas body)
 
 -- a response to this command, of so many bytes
 unfoldable pub response_lines : (fields : Bool) → CommandCode → ℕ → ReplyCut → Response → List ℕ
 response_lines fields code size r (responses.Code n) = in_lines fields (code_alone_told n)
 response_lines fields code size r (responses.Done body auths) =
-    reply_line code size ++ in_lines fields (reply_rest fields r body)
+    first_line (codes "reply") code size ++ in_lines fields (reply_rest fields r body)
 
 -- ---- what is shown
 

@@ -1,7 +1,7 @@
 //! What stands behind the header of a frame.
 
 ghost use Rattle.std.specs.Prelude.{◌≡◌, ◌++◌, OnOk, flat_map};
-ghost use Rattle.tpm_show.specs.Areas.{areas_told, parameters_told, reply_areas_told};
+ghost use Rattle.tpm_show.specs.Areas.{areas_told, parameters_told};
 
 use crate::handle_names::tell_handles;
 use crate::piece::{LINE_END, in_line, says};
@@ -33,20 +33,4 @@ pub(crate) fn tell_areas<A: HasSessions, T: Teller>(
     tell_handles(teller, handles)?;
     tell_sessions(teller, sessions)?;
     tell_parameters(teller, params)
-}
-
-/// Tells what stands behind a response's header: its handles, its parameters as they came, and its sessions.
-#[tactic(auto, using(crate::proofs::Pieces::pieces))]
-pub(crate) fn tell_reply_areas<A: HasSessions, T: Teller>(
-    teller: &mut T,
-    handles: &[u32],
-    params: &[u8],
-    sessions: &A,
-) -> Pushed
-    ensures { OnOk result (T.told teller.new ≡ T.told teller.old
-        ++ flat_map T.marks (reply_areas_told handles.now params.now (A.sessions sessions.now))) }
-{
-    tell_handles(teller, handles)?;
-    tell_parameters(teller, params)?;
-    tell_sessions(teller, sessions)
 }

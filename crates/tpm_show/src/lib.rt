@@ -28,7 +28,6 @@ mod passage;
 mod piece;
 mod refused;
 mod remark;
-mod reply_text;
 mod reports;
 mod sessions;
 mod shown;

@@ -5,15 +5,17 @@ ghost use Rattle.tpm_show.specs.Library.{command_areas_told, response_areas_told
 ghost use Rattle.tpm_show.specs.Refusals.{buffer_head, code_in, head_told, is_buffer_beyond, refusal_told, refused_told};
 ghost use Rattle.tpm_show.specs.Refusals.{status_if, verdict, verdict_name};
 
-use crate::areas::{tell_areas, tell_reply_areas};
+use crate::areas::{tell_areas, tell_parameters};
 use crate::beyond::is_beyond;
 use crate::capture_lines::Direction;
 use crate::command_names::command_of;
 use crate::frame_header::{
     FrameHeader, header_in, tell_code_in_line, tell_code_name, tell_command_head, tell_reply_head,
 };
+use crate::handle_names::tell_handles;
 use crate::library::{CommandAreas, ResponseAreas, library_command, library_response};
 use crate::piece::{How, LINE_END, Piece, Value, in_line, says};
+use crate::sessions::tell_sessions;
 use crate::teller::{Teller, tell_pieces};
 use std::alloc::AllocError;
 use tpm_output::status::Status;
@@ -128,6 +130,7 @@ fn tell_refused_command<T: Teller>(
 // ---- a response
 
 /// Tells what is behind the header of a response, where it is there.
+#[tactic(auto, using(crate::proofs::Pieces::pieces))]
 pub(crate) fn tell_response_areas<T: Teller>(
     teller: &mut T,
     areas: &Option<ResponseAreas<'_>>,
@@ -136,7 +139,11 @@ pub(crate) fn tell_response_areas<T: Teller>(
         ≡ T.told teller.old ++ flat_map T.marks (response_areas_told areas.now)) }
 {
     match areas {
-        Some(areas) => tell_reply_areas(teller, areas.handles.as_slice(), areas.params, areas),
+        Some(areas) => {
+            tell_handles(teller, areas.handles.as_slice())?;
+            tell_parameters(teller, areas.params)?;
+            tell_sessions(teller, areas)
+        }
         None => Ok(()),
     }
 }

@@ -1,6 +1,6 @@
 //! What is told of a buffer.
 
-ghost use Rattle.std.specs.Prelude.{◌≡◌, ◌++◌, None, Some, IfOk, IfErr, OnOk, flat_map, string_bytes};
+ghost use Rattle.std.specs.Prelude.{◌≡◌, ◌++◌, None, Some, IfOk, IfErr, OnOk, flat_map, option_to_list, string_bytes};
 ghost use Rattle.tpm_wire.specs.Path.{Fault, Spells};
 ghost use Rattle.tpm_buffer.specs.Commands.{command};
 ghost use Rattle.tpm_buffer.specs.CommandAreas.{HasCut};
@@ -8,16 +8,19 @@ ghost use Rattle.tpm_buffer.specs.Responses.{reply_cut, response};
 ghost use Rattle.tpm_show.specs.Areas.{command_rest, reply_rest, response_rest};
 ghost use Rattle.tpm_show.specs.Fields.{command_fields, reply_fields};
 ghost use Rattle.tpm_show.specs.FieldText.{fields_told};
-ghost use Rattle.tpm_show.specs.Show.{ShowsBuffer, ShowsRefused, command_line, command_lines, response_lines};
+ghost use Rattle.tpm_show.specs.HandleNames.{handles_told};
+ghost use Rattle.tpm_show.specs.Show.{ShowsBuffer, ShowsRefused, code_alone_told, command_lines, first_line};
+ghost use Rattle.tpm_show.specs.Show.{response_lines};
 
 use crate::areas::{tell_areas, tell_parameters};
 use crate::fields::{tell_command_fields, tell_reply_fields};
+use crate::frame_header::tell_code_in_line;
+use crate::handle_names::tell_handles;
 use crate::lines::Lines;
-use crate::piece::{Piece, Shape};
+use crate::piece::{LINE_END, Piece, Shape, in_line};
 use crate::refused::{tell_buffer_head, tell_refusal, tell_refused};
-use crate::reply_text::{push_name, tell_code_alone, tell_first_handle};
 use crate::sessions::tell_sessions;
-use crate::teller::Teller;
+use crate::teller::{Teller, tell_pieces};
 use std::alloc::{AllocError, Global};
 use tpm_buffer::{
     Areas, ReplyAreas, areas, areas_of_a_response, decode_command, decode_response,
@@ -51,6 +54,16 @@ fn refused<const FIELDS: bool>(
         status,
         text: lines.text,
     })
+}
+
+// Adds the first line of a buffer of so many bytes.
+#[tactic(auto, unfolding(crate::specs::Show::first_line))]
+fn push_first_line(text: &mut String, kind: &str, code: CommandCode, size: usize) -> Pushed
+    ensures { OnOk result
+        (string_bytes text.new ≡ string_bytes text.old ++ first_line kind.now code size) }
+{
+    let name = code.name();
+    writeln!(text, "{kind} {name} size {size}")
 }
 
 // ---- a command
@@ -95,15 +108,6 @@ pub(crate) fn tell_command_rest<T: Teller>(
     tell_named_parameters(teller, fields, body)
 }
 
-#[tactic(auto, unfolding(crate::specs::Show::command_line))]
-fn push_command_name(text: &mut String, code: CommandCode, size: usize) -> Pushed
-    ensures { OnOk result
-        (string_bytes text.new ≡ string_bytes text.old ++ command_line code size) }
-{
-    let name = code.name();
-    writeln!(text, "command {name} size {size}")
-}
-
 #[tactic(auto, unfolding(crate::specs::Show::command_lines))]
 fn push_command_lines<const FIELDS: bool>(
     text: &mut Lines<FIELDS>,
@@ -114,7 +118,7 @@ fn push_command_lines<const FIELDS: bool>(
     ensures { OnOk result (string_bytes text.new.text
         ≡ string_bytes text.old.text ++ command_lines FIELDS size areas.now body.now) }
 {
-    push_command_name(&mut text.text, areas.code(), size)?;
+    push_first_line(&mut text.text, "command", areas.code(), size)?;
     tell_command_rest(text, FIELDS, areas, body)
 }
 
@@ -167,6 +171,17 @@ fn tell_reply_parameters<T: Teller>(teller: &mut T, fields: bool, body: &ReplyBo
     teller.tell(&Piece::Closes(Shape::List))
 }
 
+// Tells the handle, where there is one.
+fn tell_first_handle<T: Teller>(teller: &mut T, handle: Option<u32>) -> Pushed
+    ensures { OnOk result (T.told teller.new
+        ≡ T.told teller.old ++ flat_map T.marks (handles_told (option_to_list handle))) }
+{
+    match handle {
+        Some(handle) => tell_handles(teller, &[handle]),
+        None => tell_handles(teller, &[]),
+    }
+}
+
 #[tactic(auto, using(crate::proofs::Pieces::pieces))]
 fn tell_reply_rest<T: Teller>(
     teller: &mut T,
@@ -199,6 +214,17 @@ pub(crate) fn tell_response_rest<T: Teller>(
     }
 }
 
+// Tells a code that has nothing behind it.
+#[tactic(auto, using(crate::proofs::Pieces::pieces), unfolding(crate::specs::Show::code_alone_told))]
+fn tell_code_alone<T: Teller>(teller: &mut T, code: u32) -> Pushed
+    ensures { OnOk result
+        (T.told teller.new ≡ T.told teller.old ++ flat_map T.marks (code_alone_told code)) }
+{
+    tell_pieces!(teller; in_line!(Alone Word "reply code"), in_line!(Behind Code code))?;
+    tell_code_in_line(teller, code)?;
+    teller.tell(&LINE_END)
+}
+
 #[tactic(auto, unfolding(crate::specs::Show::response_lines))]
 fn push_response_lines<const FIELDS: bool>(
     text: &mut Lines<FIELDS>,
@@ -213,7 +239,7 @@ fn push_response_lines<const FIELDS: bool>(
     match response {
         Response::Code(code) => tell_code_alone(text, code.number()),
         Response::Done { body, .. } => {
-            push_name(&mut text.text, command, size)?;
+            push_first_line(&mut text.text, "reply", command, size)?;
             tell_reply_rest(text, FIELDS, areas, body)
         }
     }

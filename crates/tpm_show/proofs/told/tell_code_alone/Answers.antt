@@ -1,6 +1,6 @@
-use Rattle.tpm_show.specs.ReplyText.{code_alone_told}
+use Rattle.tpm_show.specs.Show.{code_alone_told}
 use Rattle.tpm_show.proofs.Pieces.{pieces}
-use Rattle.tpm_show.proofs.reply_text.tell_code_alone.Goals as goal
+use Rattle.tpm_show.proofs.told.tell_code_alone.Goals as goal
 
 pub returns : goal.returns
 unfolding code_alone_told
