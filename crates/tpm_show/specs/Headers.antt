@@ -1,10 +1,10 @@
 -- The header of a frame, whatever a profile has of it, and what is told of it (Part 1, "Command/Response Structure";
 -- this profile).
 use Rattle.std.specs.Prelude.{ℕ, List, [], ◌∷◌, ◌++◌, length, take, nat_lt, codes, Option, Some}
-use Rattle.std.specs.Prelude.{None, Result, Ok, Err, if◌then◌else◌}
+use Rattle.std.specs.Prelude.{None, if◌then◌else◌, option_map}
+use Rattle.std.specs.Result.{result_ok}
 use Rattle.std.specs.Int.{to_be_bytes, w16, w32}
-use Rattle.tpm_wire.specs.declared.refusal.Refusal.{Refusal}
-use Rattle.tpm_wire.specs.Token.{Here, at_start}
+use Rattle.tpm_wire.specs.Token.{at_start}
 use Rattle.tpm_wire.specs.Layout.Form.{field, done}
 use Rattle.tpm_wire.specs.Reading.{read}
 use Rattle.tpm_wire.specs.Buffers.{Layout, any_number}
@@ -26,14 +26,11 @@ frame_header =
     field (λ h. h.code) (any_number 4) (λ code.
     done (record { tag = tag; size = size; code = code }))))
 
-abbrev pub header_read : Result (FrameHeader × Here) Refusal → Option FrameHeader
-header_read (Ok x) = Some x.0
-header_read (Err e) = None
-
 -- Fewer than ten bytes have no header.
 unfoldable pub header_in : List ℕ → Option FrameHeader
 header_in bytes =
-    if nat_lt (length bytes) 10 then None else header_read (read 0 frame_header (at_start (take 10 bytes)))
+    if nat_lt (length bytes) 10 then None
+    else option_map (λ x. x.0) (result_ok (read 0 frame_header (at_start (take 10 bytes))))
 
 -- ---- names
 

@@ -1,8 +1,8 @@
 -- What stands behind the header of a frame, by how many handles a command of the library or its response has (Part 1,
 -- "Command/Response Structure"; Part 3, the tables of each). Its parameters are not judged.
 use Rattle.std.specs.Prelude.{ℕ, ◌*◌, ◌+◌, true, List, [], ◌++◌, length, drop, map, Option, Some, None, ◌==◌, ◌&&◌}
-use Rattle.std.specs.Prelude.{false, Result, Ok, Err, nat_le, if◌then◌else◌}
-use Rattle.tpm_wire.specs.declared.refusal.Refusal.{Refusal}
+use Rattle.std.specs.Prelude.{false, nat_le, if◌then◌else◌}
+use Rattle.std.specs.Result.{result_ok}
 use Rattle.tpm_wire.specs.Buffers.{Layout, any_number, numbered}
 use Rattle.tpm_wire.specs.Layout.Form.{done, field, list}
 use Rattle.tpm_wire.specs.Layout.{raw, remaining, either}
@@ -73,12 +73,8 @@ response_areas handles tag = field (λ a. a.handles) (any_handles handles) (λ h
 
 -- ---- where they are there
 
-abbrev pub if_read : {A : Type 0} → Result A Refusal → Option A
-if_read (Ok a) = Some a
-if_read (Err e) = None
-
 abbrev pub command_areas_of : Option Listed → (tag : ℕ) → Option (List ℕ) → Option CommandAreas
-command_areas_of (Some c) tag (Some rest) = if_read (read_all (command_areas c.handles tag) rest)
+command_areas_of (Some c) tag (Some rest) = result_ok (read_all (command_areas c.handles tag) rest)
 command_areas_of _ tag _ = None
 
 -- of a command of the library, where its handles and its sessions are there
@@ -87,7 +83,7 @@ library_command bytes None = None
 library_command bytes (Some h) = command_areas_of (command_of h.code) h.tag (behind_whole bytes h)
 
 abbrev pub response_areas_of : Option Listed → (tag : ℕ) → Option (List ℕ) → Option ResponseAreas
-response_areas_of (Some c) tag (Some rest) = if_read (read_all (response_areas c.reply_handles tag) rest)
+response_areas_of (Some c) tag (Some rest) = result_ok (read_all (response_areas c.reply_handles tag) rest)
 response_areas_of _ tag _ = None
 
 -- of a response of code 0 that is to this command of the library, where they are there
