@@ -1,7 +1,7 @@
 //! What a larger profile would not refuse.
 
 ghost use Rattle.std.specs.Prelude.{◌≡◌};
-ghost use Rattle.tpm_show.specs.Beyond.{is_beyond, is_more_banks, is_of_code, is_of_count, is_of_hash, is_other_hash};
+ghost use Rattle.tpm_show.specs.Beyond.{is_beyond, is_more_banks, is_of_count, is_other_hash};
 
 use crate::capture_lines::Direction;
 use tpm_pcap::{behind, number2, number4};
@@ -9,20 +9,6 @@ use tpm_wire::Refusal;
 use tpm_wire::response_code::COMMAND_CODE;
 
 // ---- what is refused
-
-// Whether it is the command's code alone.
-fn is_of_code(refusal: &Refusal) -> bool
-    ensures { result ≡ is_of_code refusal.now }
-{
-    refusal.code == COMMAND_CODE && refusal.at == 6
-}
-
-// Whether it is the hash of a parameter.
-fn is_of_hash(code: u32) -> bool
-    ensures { result ≡ is_of_hash code }
-{
-    code % 256 == 0xc3
-}
 
 // Whether it is the count of a list of banks.
 fn is_of_count(direction: Direction, command: u32, code: u32) -> bool
@@ -62,7 +48,7 @@ pub(crate) fn is_beyond(direction: Direction, command: u32, refusal: &Refusal, b
     ensures { result ≡ is_beyond direction command refusal.now bytes.now }
 {
     let rest = behind(bytes, refusal.at as usize);
-    is_of_code(refusal)
-        || is_of_hash(refusal.code) && is_other_hash(number2(rest, 0))
+    refusal.code == COMMAND_CODE && refusal.at == 6
+        || refusal.code % 256 == 0xc3 && is_other_hash(number2(rest, 0))
         || is_of_count(direction, command, refusal.code) && is_more_banks(number4(rest, 0))
 }
