@@ -138,10 +138,10 @@ pub(crate) fn value_name(kind: &str, bytes: &[u8]) -> Option<ValueName>
 {
     let number = number_in(bytes)?;
     if kind == "TPM_CC" {
-        let command = command_of(number)?;
+        let (_, name, _, _) = *command_of(number)?;
         return Some(ValueName {
             front: "TPM_CC_",
-            name: command.name,
+            name,
         });
     }
     let name = named_of(kind, number)?;
