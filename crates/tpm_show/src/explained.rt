@@ -14,7 +14,7 @@ use std::alloc::{AllocError, Global};
 use std::io::Write;
 use tpm_names::codes::{code_meaning, code_subject};
 use tpm_names::meaning::Meaning;
-use tpm_output::answer::Answer;
+use tpm_output::answer::write;
 use tpm_output::fault::ToolFault;
 use tpm_output::status::Status;
 use tpm_output::text::Pushed;
@@ -97,15 +97,6 @@ fn push_code(text: &mut String, code: u32) -> Result<Status, AllocError>
     push_code_among(text, codes_of(layer.number), code & CODE)
 }
 
-fn answer(alloc: Global, code: u32) -> Result<Answer, AllocError>
-    ensures { IfOk result (λ a. (a.status ≡ explain_status code)
-        × (string_bytes a.text ≡ explanation code)) }
-{
-    let mut text = String::new(alloc);
-    let status = push_code(&mut text, code)?;
-    Ok(Answer { status, text })
-}
-
 /// Prints what a response code says: `TPM_RC_NAME: WORDS`, or `TPM_RC_NAME for SUBJECT N: WORDS`
 /// where it has the number of a handle, session or parameter (Part 2, 6.6).
 ///
@@ -121,5 +112,8 @@ pub fn explain<W: Write>(alloc: Global, out: &mut W, code: u32) -> Result<Status
         × Appends (W.contents out.old) (W.contents out.new) (explanation code)) }
     ensures err { FailsByMemoryOrWrite result }
 {
-    answer(alloc, code)?.print(out)
+    let mut text = String::new(alloc);
+    let status = push_code(&mut text, code)?;
+    write(out, &text)?;
+    Ok(status)
 }
