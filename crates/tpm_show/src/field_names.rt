@@ -1,12 +1,11 @@
 //! The names that Part 2 gives to numbers, by the types of the fields that they stand in.
 
-ghost use Rattle.std.specs.Prelude.{◌≡◌, ◌++◌, IfOk, map, option_map, string_bytes};
+ghost use Rattle.std.specs.Prelude.{◌≡◌, ◌++◌, map, option_map};
 ghost use Rattle.tpm_output.specs.Named.{row_as};
 ghost use Rattle.tpm_show.specs.FieldNames.{is_algorithm, is_handle, named_of, names_for, number_in, value_name};
 
 use crate::command_names::command_of;
 use crate::handle_names::handle_name;
-use std::alloc::{AllocError, Global};
 use tpm_output::named::{Row, look_up};
 use tpm_output::names;
 
@@ -15,16 +14,6 @@ use tpm_output::names;
 pub(crate) struct ValueName {
     pub(crate) front: &'static str,
     pub(crate) name: &'static str,
-}
-
-impl ValueName {
-    /// Both parts of it.
-    pub(crate) fn whole(self, alloc: Global) -> Result<String, AllocError>
-        ensures { IfOk result (λ text. string_bytes text ≡ self.front.now ++ self.name.now) }
-    {
-        let ValueName { front, name } = self;
-        format!(in alloc; "{front}{name}")
-    }
 }
 
 // TPM_ALG_ID (Part 2, 6.3)

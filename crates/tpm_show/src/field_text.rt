@@ -7,7 +7,7 @@ ghost use Rattle.tpm_show.specs.Pieces.{word_told};
 ghost use Rattle.tpm_show.specs.declared.piece.How.TheVariants.{Behind};
 
 use crate::field::Field;
-use crate::field_names::value_name;
+use crate::field_names::{ValueName, value_name};
 use crate::piece::{LINE_END, Piece, Shape, in_line, says};
 use crate::teller::{Teller, tell_pieces};
 use tpm_output::text::Pushed;
@@ -16,10 +16,10 @@ fn tell_value_name<T: Teller>(teller: &mut T, kind: &str, bytes: &[u8]) -> Pushe
     ensures { OnOk result (T.told teller.new ≡ T.told teller.old
         ++ flat_map T.marks (word_told Behind (codes "value_name") (value_name kind.now bytes.now))) }
 {
-    let Some(name) = value_name(kind, bytes) else {
+    let Some(ValueName { front, name }) = value_name(kind, bytes) else {
         return Ok(());
     };
-    let name = name.whole(teller.alloc())?;
+    let name = format!(in teller.alloc(); "{front}{name}")?;
     teller.tell(&says!(Behind "value_name" Word name.as_str()))
 }
 
