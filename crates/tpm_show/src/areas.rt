@@ -1,12 +1,14 @@
 //! What stands behind the header of a frame.
 
-ghost use Rattle.std.specs.Prelude.{◌≡◌, ◌++◌, OnOk, flat_map};
+ghost use Rattle.std.specs.Prelude.{◌≡◌, ◌++◌, OnOk, flat_map, map};
 ghost use Rattle.tpm_show.specs.Areas.{areas_told, parameters_told};
+ghost use Rattle.tpm_show.specs.Sessions.{of_command};
 
 use crate::handle_names::tell_handles;
 use crate::piece::{LINE_END, in_line, says};
-use crate::sessions::{HasSessions, tell_sessions};
+use crate::sessions::tell_sessions;
 use crate::teller::{Teller, tell_pieces};
+use tpm_buffer::AuthRef;
 use tpm_output::text::Pushed;
 
 /// Tells parameters as they came.
@@ -21,16 +23,16 @@ pub(crate) fn tell_parameters<T: Teller>(teller: &mut T, bytes: &[u8]) -> Pushed
 
 /// Tells what stands behind a command's header: its handles, its sessions, and its parameters as they came.
 #[tactic(auto, using(crate::proofs::Pieces::pieces))]
-pub(crate) fn tell_areas<A: HasSessions, T: Teller>(
+pub(crate) fn tell_areas<T: Teller>(
     teller: &mut T,
     handles: &[u32],
-    sessions: &A,
+    auths: &[AuthRef<'_>],
     params: &[u8],
 ) -> Pushed
     ensures { OnOk result (T.told teller.new ≡ T.told teller.old
-        ++ flat_map T.marks (areas_told handles.now (A.sessions sessions.now) params.now)) }
+        ++ flat_map T.marks (areas_told handles.now (map of_command auths.now) params.now)) }
 {
     tell_handles(teller, handles)?;
-    tell_sessions(teller, sessions)?;
+    tell_sessions(teller, &auths)?;
     tell_parameters(teller, params)
 }

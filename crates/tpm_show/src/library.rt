@@ -53,7 +53,7 @@ fn take_handles(cursor: &mut Cursor<'_>, count: u8) -> Result<Handles, Refusal>
 #[derive(Drop)]
 pub(crate) struct CommandAreas<'a> {
     pub(crate) handles: Handles,
-    auths: ArrayVec<AuthRef<'a>, 3>,
+    pub(crate) auths: ArrayVec<AuthRef<'a>, 3>,
     pub(crate) params: &'a [u8],
 }
 
@@ -67,24 +67,6 @@ impl<'a> Model for CommandAreas<'a> {
       auths = a.auths.items;
       params = a.params.now;
     } };
-}
-
-impl HasSessions for CommandAreas<'_> {
-    ghost use Rattle.std.specs.Prelude.{map};
-    ghost use Rattle.tpm_show.specs.Sessions.{of_command};
-
-    ghost sessions = { λ areas. map of_command areas.auths };
-
-    fn session_count(&self) -> usize {
-        self.auths.len()
-    }
-
-    fn session(&self, index: usize) -> Option<SessionParts<'_>> {
-        let Some(auth) = self.auths.as_slice().get(index) else {
-            return None;
-        };
-        Some(SessionParts::of_command(auth))
-    }
 }
 
 #[tactic(auto, unfolding(crate::specs::Library::command_areas))]

@@ -102,7 +102,10 @@ fn tell_command_areas<T: Teller>(teller: &mut T, areas: &Option<CommandAreas<'_>
         ≡ T.told teller.old ++ flat_map T.marks (command_areas_told areas.now)) }
 {
     match areas {
-        Some(areas) => tell_areas(teller, areas.handles.as_slice(), areas, areas.params),
+        Some(areas) => {
+            let auths = areas.auths.as_slice();
+            tell_areas(teller, areas.handles.as_slice(), auths, areas.params)
+        }
         None => Ok(()),
     }
 }

@@ -14,7 +14,7 @@ use crate::handle_names::handle_name;
 use crate::piece::{How, LINE_END, Piece, Shape, Value, in_line, says};
 use crate::teller::{Teller, tell_pieces, tell_word};
 use std::marker::Model;
-use tpm_buffer::{Areas, AuthRef, ReplyAreas};
+use tpm_buffer::{AuthRef, ReplyAreas};
 use tpm_output::named::Row;
 use tpm_output::names;
 use tpm_output::text::Pushed;
@@ -81,7 +81,7 @@ impl<'a> SessionParts<'a> {
     }
 }
 
-/// The areas of a buffer that has sessions.
+/// What has sessions: the areas of a reply, or those of a command.
 pub(crate) trait HasSessions {
     /// The sessions, in their order.
     ghost sessions: { Self → List ShownSession };
@@ -95,21 +95,21 @@ pub(crate) trait HasSessions {
         ensures { result ≡ slice_get (sessions self.now) index };
 }
 
-impl HasSessions for Areas<'_> {
+impl HasSessions for &[AuthRef<'_>] {
     ghost use Rattle.std.specs.Prelude.{map};
     ghost use Rattle.tpm_show.specs.Sessions.{of_command};
 
-    ghost sessions = { λ areas. map of_command areas.auths };
+    ghost sessions = { λ auths. map of_command auths.now };
 
     fn session_count(&self) -> usize {
-        self.auth_count()
+        self.len()
     }
 
     fn session(&self, index: usize) -> Option<SessionParts<'_>> {
-        let Some(auth) = self.auth(index) else {
+        let Some(auth) = self.get(index) else {
             return None;
         };
-        Some(SessionParts::of_command(&auth))
+        Some(SessionParts::of_command(auth))
     }
 }
 

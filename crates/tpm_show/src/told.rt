@@ -104,7 +104,7 @@ pub(crate) fn tell_command_rest<T: Teller>(
     ensures { OnOk result (T.told teller.new ≡ T.told teller.old
         ++ flat_map T.marks (command_rest fields areas.now body.now)) }
 {
-    tell_areas(teller, areas.handles(), areas, areas.params())?;
+    tell_areas(teller, areas.handles(), areas.auths(), areas.params())?;
     tell_named_parameters(teller, fields, body)
 }
 
