@@ -8,7 +8,8 @@ use Rattle.tpm_commands.specs.Row.{Field}
 use Rattle.tpm_show.specs.declared.piece.How.TheVariants as how
 use Rattle.tpm_show.specs.declared.piece.Shape.TheVariants as shape
 use Rattle.tpm_show.specs.FieldNames.{value_name}
-use Rattle.tpm_show.specs.Pieces.{Piece, Opens, Closes, Word, Number, Bytes, line_end, list_told, says, word_told, words}
+use Rattle.tpm_show.specs.Pieces.{Piece, Opens, Closes, Word, Number, Bytes, line_end, list_told, says, word_told}
+use Rattle.tpm_show.specs.Pieces.{words}
 
 -- ---- a field
 

@@ -6,12 +6,13 @@ use Rattle.tpm_types.specs.Handles.{kind_of}
 use Rattle.tpm_output.specs.Named.{named_in, table_as}
 use Rattle.tpm_show.specs.declared.handle_names.TheConstants.{KINDS, PERMANENT}
 use Rattle.tpm_show.specs.declared.piece.How.TheVariants as how
-use Rattle.tpm_show.specs.Pieces.{Value, Word, Number, Bytes, Null, Piece, Says, InLine, asked_told, line_end, list_told}
-use Rattle.tpm_show.specs.Pieces.{words}
+use Rattle.tpm_show.specs.Pieces.{Value, Word, Number, Bytes, Null, Piece, Says, InLine, asked_told, line_end}
+use Rattle.tpm_show.specs.Pieces.{list_told, words}
 
 -- ---- names
 
--- of a permanent handle its own name (TPM_RH, 7.4), and else that of its kind, by its most significant byte (TPM_HT, 7.2)
+-- of a permanent handle its own name (TPM_RH, 7.4), and else that of its kind, by its most significant byte (TPM_HT,
+-- 7.2)
 unfoldable pub handle_named : ℕ → Option (List ℕ)
 handle_named handle = option_or (named_in (table_as PERMANENT) handle) (named_in (table_as KINDS) (kind_of handle))
 

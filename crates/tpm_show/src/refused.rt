@@ -2,8 +2,8 @@
 
 ghost use Rattle.std.specs.Prelude.{◌≡◌, ◌++◌, None, Some, IfOk, OnOk, flat_map};
 ghost use Rattle.tpm_show.specs.Library.{command_areas_told, response_areas_told};
-ghost use Rattle.tpm_show.specs.Refusals.{buffer_head, code_in, head_told, is_buffer_beyond, refusal_told, refused_told};
-ghost use Rattle.tpm_show.specs.Refusals.{status_if, verdict, verdict_name};
+ghost use Rattle.tpm_show.specs.Refusals.{buffer_head, code_in, head_told, is_buffer_beyond, refusal_told};
+ghost use Rattle.tpm_show.specs.Refusals.{refused_told, status_if, verdict, verdict_name};
 
 use crate::areas::{tell_areas, tell_parameters};
 use crate::beyond::is_beyond;
