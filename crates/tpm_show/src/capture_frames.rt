@@ -53,10 +53,8 @@ pub(crate) struct FrameAt<'a> {
 fn code_number(bytes: &[u8]) -> Option<u32>
     ensures { result ≡ code_number_in bytes.now }
 {
-    match header_in(bytes) {
-        Some(header) => Some(header.code),
-        None => None,
-    }
+    let header = header_in(bytes)?;
+    Some(header.code)
 }
 
 fn is_response(bytes: &[u8]) -> bool

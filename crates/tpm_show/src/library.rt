@@ -32,10 +32,8 @@ fn behind_whole<'a>(bytes: &'a [u8], header: &FrameHeader) -> Option<&'a [u8]>
     if header.tag != NO_SESSIONS && header.tag != SESSIONS {
         return None;
     }
-    match bytes.split_at_checked(10) {
-        Some((_, rest)) => Some(rest),
-        None => None,
-    }
+    let (_, rest) = bytes.split_at_checked(10)?;
+    Some(rest)
 }
 
 #[tactic(auto, unfolding(crate::specs::Library::any_handles))]
