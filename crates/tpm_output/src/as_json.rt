@@ -20,23 +20,26 @@ pub struct Json<S: Sink + Drop> {
     pub behind: bool,
 }
 
-fn opening(shape: Shape) -> &'static str
-    ensures { result.now ≡ opening shape }
+// Much of the time of a text goes into puts of a character. So what stands together is put together, and each put names
+// its text, whose length is known there then.
+
+fn put_opening<S: Sink>(sink: &mut S, shape: Shape) -> Told
+    ensures { OnOk result (S.written sink.new ≡ S.written sink.old ++ opening shape) }
 {
     match shape {
-        Shape::Object => "{",
-        Shape::List | Shape::Words => "[",
-        Shape::Text => "\"",
+        Shape::Object => put(sink, "{"),
+        Shape::List | Shape::Words => put(sink, "["),
+        Shape::Text => put(sink, "\""),
     }
 }
 
-fn closing(shape: Shape) -> &'static str
-    ensures { result.now ≡ closing shape }
+fn put_closing<S: Sink>(sink: &mut S, shape: Shape) -> Told
+    ensures { OnOk result (S.written sink.new ≡ S.written sink.old ++ closing shape) }
 {
     match shape {
-        Shape::Object => "}",
-        Shape::List | Shape::Words => "]",
-        Shape::Text => "\"",
+        Shape::Object => put(sink, "}"),
+        Shape::List | Shape::Words => put(sink, "]"),
+        Shape::Text => put(sink, "\""),
     }
 }
 
@@ -49,32 +52,35 @@ pub(crate) fn ends(mark: &Mark<'_>) -> bool
     }
 }
 
-fn comma(behind: bool) -> &'static str
-    ensures { result.now ≡ comma behind }
+fn put_comma<S: Sink>(sink: &mut S, behind: bool) -> Told
+    ensures { OnOk result (S.written sink.new ≡ S.written sink.old ++ comma behind) }
 {
-    if behind { "," } else { "" }
+    if behind { put(sink, ",") } else { Ok(()) }
 }
 
-// That, and the quotation mark of a name.
-fn before_name(behind: bool) -> &'static str
-    ensures { result.now ≡ comma behind ++ codes "\"" }
+// Puts that, and the quotation mark of a name.
+fn put_before_name<S: Sink>(sink: &mut S, behind: bool) -> Told
+    ensures { OnOk result (S.written sink.new ≡ S.written sink.old ++ (comma behind ++ codes "\"")) }
 {
-    if behind { ",\"" } else { "\"" }
-}
-
-// The end of a name, and what is opened.
-fn named_opening(shape: Shape) -> &'static str
-    ensures { result.now ≡ codes "\":" ++ opening shape }
-{
-    match shape {
-        Shape::Object => "\":{",
-        Shape::List | Shape::Words => "\":[",
-        Shape::Text => "\":\"",
+    if behind {
+        put(sink, ",\"")
+    } else {
+        put(sink, "\"")
     }
 }
 
-// Puts the end of a name, and what it names. What stands together is put together, since much of the time of a text
-// goes into puts of a character.
+// Puts the end of a name, and what is opened.
+fn put_named_opening<S: Sink>(sink: &mut S, shape: Shape) -> Told
+    ensures { OnOk result (S.written sink.new ≡ S.written sink.old ++ (codes "\":" ++ opening shape)) }
+{
+    match shape {
+        Shape::Object => put(sink, "\":{"),
+        Shape::List | Shape::Words => put(sink, "\":["),
+        Shape::Text => put(sink, "\":\""),
+    }
+}
+
+// Puts the end of a name, and what it names.
 fn put_named<S: Sink>(sink: &mut S, value: &Value<'_>) -> Told
     ensures { OnOk result (S.written sink.new
         ≡ S.written sink.old ++ (codes "\":" ++ in_json (as_value value.now))) }
@@ -108,26 +114,26 @@ pub(crate) fn put_mark<S: Sink>(sink: &mut S, behind: bool, mark: &Mark<'_>) -> 
 {
     match mark {
         Mark::Says(Some(name), value) => {
-            put(sink, before_name(behind))?;
+            put_before_name(sink, behind)?;
             put(sink, name)?;
             put_named(sink, value)?;
             put_units(sink, Some(name), value)
         }
         Mark::Says(None, value) => {
-            put(sink, comma(behind))?;
+            put_comma(sink, behind)?;
             put_in_json(sink, value)
         }
         Mark::Opens(Some(name), shape) => {
-            put(sink, before_name(behind))?;
+            put_before_name(sink, behind)?;
             put(sink, name)?;
-            put(sink, named_opening(*shape))
+            put_named_opening(sink, *shape)
         }
         Mark::Opens(None, shape) => {
-            put(sink, comma(behind))?;
-            put(sink, opening(*shape))
+            put_comma(sink, behind)?;
+            put_opening(sink, *shape)
         }
         Mark::Part(value) => put_between(sink, value),
-        Mark::Closes(shape) => put(sink, closing(*shape)),
+        Mark::Closes(shape) => put_closing(sink, *shape),
     }
 }
 
