@@ -14,12 +14,13 @@ abbrev pub listed : ℕ → List ℕ → ℕ → ℕ → Listed
 listed number name handles reply_handles =
     record { number = number; name = name; handles = handles; reply_handles = reply_handles }
 
--- a row of the table, and the table that the code has
+-- a row of the table that the code has
 abbrev pub listed_as : ℕ × Bor (List ℕ) × ℕ × ℕ → Listed
 listed_as row = listed row.0 row.1.now row.2 row.3
 
+-- all rows
 abbrev pub commands : List Listed
-commands = map (λ row. listed row.0 row.1.now row.2 row.3) COMMANDS
+commands = map listed_as COMMANDS
 
 unfoldable pub listed_in : List Listed → ℕ → Option Listed
 listed_in table number = find (λ c. c.number == number) table
