@@ -4,7 +4,8 @@ ghost use Rattle.std.specs.Prelude.{◌≡◌, ◌++◌, List, IfOk, None, Some,
 ghost use Rattle.tpm_show.specs.Capture.{answered_code, awaited_behind, code_number_in, direction_of, is_code_alone};
 ghost use Rattle.tpm_show.specs.Capture.{is_response, untold, TellsFrame, TellsOther, TellsRest};
 ghost use Rattle.tpm_show.specs.inner.Capturing.{frame_as};
-ghost use Rattle.tpm_show.specs.CommandNames.{command_of, listed_as};
+ghost use Rattle.tpm_show.specs.CommandNames.{command_of};
+ghost use Rattle.tpm_show.specs.inner.CommandNames.{listed_as};
 ghost use Rattle.tpm_show.specs.Pieces.{Piece};
 ghost use Rattle.tpm_show.specs.Refusals.{TellsBuffer};
 ghost use Rattle.tpm_output.specs.declared.status.Status.TheVariants.{Refused};

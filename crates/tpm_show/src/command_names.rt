@@ -1,16 +1,30 @@
 //! The commands of the library by their names.
 
 ghost use Rattle.std.specs.Prelude.{◌≡◌, map, option_map};
-ghost use Rattle.tpm_show.specs.CommandNames.{command_of, listed_as, listed_in};
+ghost use Rattle.tpm_show.specs.CommandNames.{command_of, listed_in};
+ghost use Rattle.tpm_show.specs.inner.CommandNames.{listed_as};
 
-/// A command of the library: its number, its name without TPM2_, and how many handles it and its response have. It is
-/// no struct, so that definitions can read the table.
-pub(crate) type Listed = (u32, &'static str, u8, u8);
+/// A command of the library.
+#[derive(Clone, Copy)]
+pub(crate) struct Listed {
+    pub(crate) number: u32,
+    // without TPM2_
+    pub(crate) name: &'static str,
+    // how many handles it has
+    pub(crate) handles: u8,
+    // how many handles its response has
+    pub(crate) reply_handles: u8,
+}
 
 /// A table of them, a row in a line.
 macro_rules! commands {
     ($($number:literal $name:literal $handles:literal $reply_handles:literal,)*) => {
-        [$(($number, $name, $handles, $reply_handles)),*]
+        [$(Listed {
+            number: $number,
+            name: $name,
+            handles: $handles,
+            reply_handles: $reply_handles,
+        }),*]
     };
 }
 
@@ -142,7 +156,7 @@ fn look_up(table: &'static [Listed], number: u32) -> Option<&'static Listed>
     ensures { option_map
         (λ c. listed_as c.now) result ≡ listed_in (map listed_as table.now) number }
 {
-    table.iter().find(|row| row.0 == number)
+    table.iter().find(|command| command.number == number)
 }
 
 /// The command of the library with this code.

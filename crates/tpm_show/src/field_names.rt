@@ -127,10 +127,10 @@ pub(crate) fn value_name(kind: &str, bytes: &[u8]) -> Option<ValueName>
 {
     let number = number_in(bytes)?;
     if kind == "TPM_CC" {
-        let (_, name, _, _) = *command_of(number)?;
+        let command = command_of(number)?;
         return Some(ValueName {
             front: "TPM_CC_",
-            name,
+            name: command.name,
         });
     }
     let name = named_of(kind, number)?;

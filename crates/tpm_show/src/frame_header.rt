@@ -145,7 +145,7 @@ fn tell_command<T: Teller>(teller: &mut T, code: u32) -> Pushed
         (T.told teller.new ≡ T.told teller.old ++ T.marks (command_told code)) }
 {
     match command_of(code) {
-        Some(&(_, name, _, _)) => teller.tell(&says!(Behind "command" Word name)),
+        Some(command) => teller.tell(&says!(Behind "command" Word command.name)),
         None => teller.tell(&says!(Behind "command" Bytes &code.to_be_bytes())),
     }
 }

@@ -3,7 +3,7 @@
 ghost use Rattle.std.specs.Prelude.{◌≡◌, ◌<◌, ◌^◌, IfSome, Some, length, option_map};
 ghost use Rattle.tpm_wire.specs.Buffers.{TakesAs, TakesNumbered};
 ghost use Rattle.tpm_wire.specs.Reading.{read_all};
-ghost use Rattle.tpm_show.specs.CommandNames.{listed_as};
+ghost use Rattle.tpm_show.specs.inner.CommandNames.{listed_as};
 ghost use Rattle.tpm_show.specs.Library.{any_handles, behind_whole, command_areas};
 ghost use Rattle.tpm_show.specs.Library.{behind_handles, command_areas_of, library_command, library_response};
 ghost use Rattle.tpm_show.specs.Library.{response_areas, response_areas_of, response_sessions};
@@ -102,8 +102,7 @@ fn command_areas_of<'a>(command: &Listed, tag: u16, rest: &'a [u8]) -> Option<Co
     requires { length rest.now < 2 ^ 32 }
     ensures { result ≡ command_areas_of (Some (listed_as command.now)) tag (Some rest.now) }
 {
-    let (_, _, handles, _) = *command;
-    match read_command_areas(rest, handles, tag) {
+    match read_command_areas(rest, command.handles, tag) {
         Ok(areas) => Some(areas),
         Err(_) => None,
     }
@@ -224,8 +223,7 @@ fn response_areas_of<'a>(command: &Listed, tag: u16, rest: &'a [u8]) -> Option<R
     requires { length rest.now < 2 ^ 32 }
     ensures { result ≡ response_areas_of (Some (listed_as command.now)) tag (Some rest.now) }
 {
-    let (_, _, _, handles) = *command;
-    match read_response_areas(rest, handles, tag) {
+    match read_response_areas(rest, command.reply_handles, tag) {
         Ok(areas) => Some(areas),
         Err(_) => None,
     }
