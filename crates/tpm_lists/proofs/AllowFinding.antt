@@ -41,7 +41,7 @@ module _ (bank : Alg) (register : ℕ) (digest : List ℕ) where
   in_bucket : (a : AllowedDigest) → is_this bank register digest a ≡ true → bucket_of a ≡ bucket digest
   in_bucket a is = ap bucket ((bytes_eq-Decides a.digest.1 digest).0 (both_hold (is_for bank register a) (pointwise nat_eq a.digest.1 digest) is))
 
-  pub elsewhere : (a : AllowedDigest) → bucket_of a ≢ bucket digest → is_this bank register digest a ≡ false
+  elsewhere : (a : AllowedDigest) → bucket_of a ≢ bucket digest → is_this bank register digest a ≡ false
   elsewhere a other = not_true (is_this bank register digest a) (λ is. other (in_bucket a is))
 
 module _ (digests : List AllowedDigest) (n : ℕ) (a : AllowedDigest) (is : a ≡ get_or digests n a) (inside : n < length digests) where

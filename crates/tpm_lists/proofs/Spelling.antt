@@ -184,13 +184,6 @@ bucket_in_either (a ∷ b ∷ []) = refl
 bucket_in_either (a ∷ b ∷ c ∷ []) = refl
 bucket_in_either (a ∷ b ∷ c ∷ d ∷ rest) = rw (low_in_either a, low_in_either b, low_in_either c, low_in_either d) refl
 
-pub bucket_below : (digits : List ℕ) → digits_bucket digits < 16384
-bucket_below [] = omega arith
-bucket_below (a ∷ []) = omega arith
-bucket_below (a ∷ b ∷ []) = omega arith
-bucket_below (a ∷ b ∷ c ∷ []) = omega arith
-bucket_below (a ∷ b ∷ c ∷ d ∷ rest) = omega arith
-
 -- The digits tell the bucket of the digest that they spell.
 pub bucket_spelled : (digits bytes : List ℕ) → bytes_in digits ≡ Some bytes → digits_bucket digits ≡ bucket bytes
 bucket_spelled digits bytes is =

@@ -30,14 +30,12 @@ fn low(digit: u8) -> usize
 }
 
 // The bucket of the digest that these digits spell.
-fn digits_bucket(digits: &[u8]) -> u16
+fn digits_bucket(digits: &[u8]) -> usize
     ensures value { result ≡ digits_bucket digits.now }
     ensures below { result < 16384 }
 {
     match digits {
-        [a, b, c, d, ..] => {
-            ((((low(*a) * 26 + low(*b)) * 26 + low(*c)) * 26 + low(*d)) % BUCKETS) as u16
-        }
+        [a, b, c, d, ..] => (((low(*a) * 26 + low(*b)) * 26 + low(*c)) * 26 + low(*d)) % BUCKETS,
         _ => 0,
     }
 }
@@ -116,8 +114,6 @@ pub struct AllowedLine<'a> {
     digits: &'a [u8],
     // Whether some of them are capitals. Where none is, they are compared as they stand.
     has_capitals: bool,
-    // The digest's bucket. Digests in different ones are told apart without their digits, which lie elsewhere.
-    bucket: u16,
 }
 
 impl<'a> Model for AllowedLine<'a> {
@@ -128,7 +124,6 @@ impl<'a> Model for AllowedLine<'a> {
     ghost use Rattle.tpm_output.specs.Text.{bytes_in};
     ghost use Rattle.tpm_vouched.specs.declared.allowed.AllowedDigest.{AllowedDigest as Allowed};
     ghost use Rattle.tpm_lists.specs.AllowedLine.{spelled};
-    ghost use Rattle.tpm_lists.specs.inner.AllowIndex.{digits_bucket};
 
     ghost Value = { Allowed };
 
@@ -140,8 +135,7 @@ impl<'a> Model for AllowedLine<'a> {
     ghost invariant = { λ l.
         (bytes_in l.digits.now ≡ Some (spelled l.digits.now))
         × (length (spelled l.digits.now) ≡ digest_len l.bank)
-        × (list_any is_ascii_uppercase l.digits.now ≡ l.has_capitals)
-        × (l.bucket ≡ digits_bucket l.digits.now) };
+        × (list_any is_ascii_uppercase l.digits.now ≡ l.has_capitals) };
 }
 
 /// A digest that is looked for, and the register of a bank that it extends.
@@ -152,7 +146,6 @@ pub(crate) struct Sought<'a> {
     digest: &'a [u8],
     // Those of its first 48 bytes, in lower case.
     digits: &'a [u8],
-    bucket: u16,
 }
 
 impl<'a> Model for Sought<'a> {
@@ -160,15 +153,13 @@ impl<'a> Model for Sought<'a> {
     ghost use Rattle.hex.specs.Hex.{IsBytes, encode_lower};
     ghost use Rattle.tpm_types.specs.Limits.{digest_bytes};
     ghost use Rattle.tpm_vouched.specs.declared.allowed.AllowedDigest.{AllowedDigest as Allowed};
-    ghost use Rattle.tpm_lists.specs.inner.AllowIndex.{digits_bucket};
 
     ghost Value = { Allowed };
 
     ghost view = { λ s. record { register = s.register; digest = (s.bank, s.digest.now) } };
 
     ghost invariant = { λ s.
-        (s.digits.now ≡ encode_lower (take digest_bytes s.digest.now)) × IsBytes s.digest.now
-        × (s.bucket ≡ digits_bucket s.digits.now) };
+        (s.digits.now ≡ encode_lower (take digest_bytes s.digest.now)) × IsBytes s.digest.now };
 }
 
 impl<'a> Sought<'a> {
@@ -190,7 +181,6 @@ impl<'a> Sought<'a> {
             register,
             digest,
             digits,
-            bucket: digits_bucket(digits),
         }
     }
 
@@ -199,7 +189,7 @@ impl<'a> Sought<'a> {
         ensures value { result ≡ bucket self.now.digest.1 }
         ensures below { result < 16384 }
     {
-        usize::from(self.bucket)
+        digits_bucket(self.digits)
     }
 }
 
@@ -217,7 +207,6 @@ impl<'a> AllowedLine<'a> {
             register,
             digits,
             has_capitals: has_capitals(digits),
-            bucket: digits_bucket(digits),
         })
     }
 
@@ -233,7 +222,7 @@ impl<'a> AllowedLine<'a> {
         ensures value { result ≡ bucket self.now.digest.1 }
         ensures below { result < 16384 }
     {
-        usize::from(self.bucket)
+        digits_bucket(self.digits)
     }
 
     // Whether it is for this register of the bank.
@@ -264,9 +253,6 @@ impl<'a> AllowedLine<'a> {
         ensures { result
             ≡ is_this sought.now.digest.0 sought.now.register sought.now.digest.1 self.now }
     {
-        if self.bucket != sought.bucket {
-            return false;
-        }
         self.is_for(sought.bank, sought.register) && self.spells(sought)
     }
 }

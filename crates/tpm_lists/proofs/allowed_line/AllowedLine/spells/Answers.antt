@@ -13,7 +13,7 @@ pub returns-then-self : goal.returns-then-self
 returns-then-self c =
     c.is_lower_case.ensures
     ∙ lower_as_made c.self.inside.bank c.self.inside.digits.now c.sought.inside.digest.now c.sought.inside.digits.now
-    (c.self.invariant.0, c.self.invariant.1) (omega (arith, c.if-self-sought.false)) (c.sought.invariant.0, c.sought.invariant.1)
+    (c.self.invariant.0, c.self.invariant.1) (omega (arith, c.if-self-sought.false)) c.sought.invariant
     ∙ ap (λ (a : AllowedDigest). pointwise nat_eq a.digest.1 c.sought.inside.digest.now) c.self.view_is
     ∙ ap (λ (a : AllowedDigest). pointwise nat_eq c.args.self.now.digest.1 a.digest.1) c.sought.view_is
 
@@ -21,8 +21,7 @@ pub returns : goal.returns
 returns c =
     c.are_same.ensures
     ∙ same_as_made c.self.inside.bank c.self.inside.digits.now c.sought.inside.digest.now c.sought.inside.digits.now
-    (c.self.invariant.0, c.self.invariant.1) (omega (arith, c.if-self-sought.false)) (c.sought.invariant.0, c.sought.invariant.1)
-    (c.self.invariant.2 ∙ c.if-self.false)
+    (c.self.invariant.0, c.self.invariant.1) (omega (arith, c.if-self-sought.false)) c.sought.invariant (c.self.invariant.2 ∙ c.if-self.false)
     ∙ ap (λ (a : AllowedDigest). pointwise nat_eq a.digest.1 c.sought.inside.digest.now) c.self.view_is
     ∙ ap (λ (a : AllowedDigest). pointwise nat_eq c.args.self.now.digest.1 a.digest.1) c.sought.view_is
 
