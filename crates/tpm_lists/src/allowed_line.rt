@@ -108,11 +108,11 @@ fn are_same(digits: &[u8], others: &[u8]) -> bool
 /// A digest by which a register may be extended, with as many bytes as those of its bank's hash have.
 #[derive(Drop)]
 pub struct AllowedLine<'a> {
-    bank: Alg,
-    register: PcrIndex,
-    // Two for each byte, as they stand in the list.
+    // Two for each byte of the digest, as they stand in the list. They are first, so that a line takes 24 bytes.
     digits: &'a [u8],
-    // Whether some of them are capitals. Where none is, they are compared as they stand.
+    register: PcrIndex,
+    bank: Alg,
+    // Whether some of the digits are capitals. Where none is, they are compared as they stand.
     has_capitals: bool,
 }
 
