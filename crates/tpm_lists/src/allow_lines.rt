@@ -139,6 +139,10 @@ fn cut_line(bytes: &[u8]) -> (&[u8], Option<&[u8]>)
         ≡ before_first is_feed bytes.now ∷ lines_left (option_map (λ b. b.now) result.1) }
     ensures shorter { IfSome result.1 (λ behind. length behind.now < length bytes.now) }
 {
+    // Behind most digests there is no word.
+    if let [b'\n', behind @ ..] = bytes {
+        return (&[], Some(behind));
+    }
     match first(b'\n', bytes) {
         Some(at) => (&bytes[..at], Some(&bytes[at + 1..])),
         None => (bytes, None),

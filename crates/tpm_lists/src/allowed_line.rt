@@ -40,26 +40,18 @@ fn digits_bucket(digits: &[u8]) -> usize
     }
 }
 
-// Whether all are hexadecimal digits.
-fn are_digits(text: &[u8]) -> bool
-    ensures { result ≡ list_all is_hex_digit text.now }
+// Whether all are hexadecimal digits, and whether some are capitals.
+#[inline(always)]
+fn kinds_in(text: &[u8]) -> (bool, bool)
+    ensures { result ≡ (list_all is_hex_digit text.now, list_any is_ascii_uppercase text.now) }
 {
-    let mut are = true;
+    let mut are_digits = true;
+    let mut has_capitals = false;
     for byte in text {
-        are &= byte.is_ascii_hexdigit();
+        are_digits &= byte.is_ascii_hexdigit();
+        has_capitals |= byte.is_ascii_uppercase();
     }
-    are
-}
-
-// Whether some are capitals.
-fn has_capitals(digits: &[u8]) -> bool
-    ensures { result ≡ list_any is_ascii_uppercase digits.now }
-{
-    let mut has = false;
-    for digit in digits {
-        has |= digit.is_ascii_uppercase();
-    }
-    has
+    (are_digits, has_capitals)
 }
 
 // Whether the text is these digits in lower case.
@@ -74,10 +66,21 @@ fn is_lower_case(digits: &[u8], text: &[u8]) -> bool
     *lower == *text
 }
 
-// How many bytes and digits a digest of SHA-256 has. Most have so many, which are written and compared without a loop.
+// How many bytes and digits a digest of SHA-256 has. Most have so many, which are read, written and compared without a
+// loop.
 const SHA256_BYTES: usize = 32;
 
 const SHA256_DIGITS: usize = 2 * SHA256_BYTES;
+
+// The same.
+fn kinds_of(text: &[u8]) -> (bool, bool)
+    ensures { result ≡ (list_all is_hex_digit text.now, list_any is_ascii_uppercase text.now) }
+{
+    match text.as_array::<SHA256_DIGITS>() {
+        Some(digits) => kinds_in(digits),
+        None => kinds_in(text),
+    }
+}
 
 // Writes the digits of these bytes, in lower case.
 #[inline(always)]
@@ -199,14 +202,15 @@ impl<'a> AllowedLine<'a> {
         ensures { MatchOption result (allowing bank register (bytes_in digits.now) ≡ Wrong)
             (λ line. allowing bank register (bytes_in digits.now) ≡ Allows line) }
     {
-        if digits.len() != 2 * bank.digest_len() || !are_digits(digits) {
+        let (are_digits, has_capitals) = kinds_of(digits);
+        if digits.len() != 2 * bank.digest_len() || !are_digits {
             return None;
         }
         Some(AllowedLine {
             bank,
             register,
             digits,
-            has_capitals: has_capitals(digits),
+            has_capitals,
         })
     }
 
