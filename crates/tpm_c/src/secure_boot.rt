@@ -163,11 +163,11 @@ fn boot_in(
 }
 
 /// Tells whether Secure Boot was on, by the records of register 7 in the bank of this hash
-/// (`tpm_secure_boot::secure_boot`): 48 on, 49 off, 50 where SecureBoot has no byte or was not measured.
+/// (`tpm_secure_boot::secure_boot`): 48 on, 49 off, 50 where SecureBoot has no byte.
 /// `view` then has the rest, and `authorities` at its beginning how many bytes of the log precede
 /// each authority, as many as `count` says. Where it has less room 51 is answered, and `count`
 /// alone is written. Otherwise the first of these is answered: 18 for a hash that has no bank; the
-/// number of the log's first fault; 64 to 74 for the first fault of what the records tell. `at`
+/// number of the log's first fault; 64 to 75 for the first fault of what the records tell. `at`
 /// then says how many bytes of the log precede what is at fault, but for 18. What isn't written so
 /// stays as it was.
 #[unsafe(no_mangle)]
