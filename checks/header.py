@@ -133,6 +133,7 @@ def crate_numbers():
         | arms("tpm_types", "constants", "StartupType", "TPM_SU_")
         | arms("tpm_types", "constants", "SessionType", "TPM_SE_")
         | constants("tpm_wire", "response_code", "TPM_RC_")
+        | {"TPM_RC_SCHEME": constants("tpm_quote", "signature")["SCHEME"]}
         | arms("tpm_types", "command_code", "CommandCode", "TPM_CC_")
         # Numbers that the sources have within others (Part 2, 6.6.2 and 6.9).
         | {"TPM_RC_SUCCESS": 0, "TPM_RC_H": 0, "TPM_RC_P": 0x040, "TPM_RC_S": 0x800, "TPM_ST_RSP_COMMAND": 0x00C4}

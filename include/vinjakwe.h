@@ -228,9 +228,9 @@ size_t tpm_hash(uint16_t hash, const uint8_t *bytes, size_t len, uint8_t *out, s
 /* How many bytes a TPML_PCR_SELECTION has with an entry for each bank (Part 2, 10.9.7). */
 #define TPM_SELECTION_BYTES 22
 
-/* Writes the registers that a text lists as tpm2-tools do, `sha1:7+sha256:0,1,2` or `sha256:all`, to the beginning of `out`, as a
- * TPML_PCR_SELECTION as it is spelled, and says how many bytes it has: TPM_SELECTION_BYTES. It answers 0, and nothing is written,
- * for any other text, or where out_len is less. */
+/* Writes the registers that a text lists as tpm2-tools do, `sha1:7+sha256:0,1,2` or `sha256:all`, or from one to another, `sha256:0-7`,
+ * to the beginning of `out`, as a TPML_PCR_SELECTION as it is spelled, and says how many bytes it has: TPM_SELECTION_BYTES. It answers
+ * 0, and nothing is written, for any other text, or where out_len is less. */
 size_t tpm_selection(const uint8_t *text, size_t len, uint8_t *out, size_t out_len);
 
 /* ---- a log of a measured boot (PC Client Platform Firmware Profile, "Event Logging") */
@@ -323,11 +323,11 @@ size_t tpm_event_type_name(uint32_t kind, uint8_t *out, size_t out_len);
 #define TPM_TEXT ((uint32_t)34)
 #define TPM_TEXT_UTF16 ((uint32_t)35)
 
-/* Tells the text that these bytes, the data of a record of this type, are, all of them but for zeros that end it. TPM_TEXT: it is in
- * `view`, and the type is EV_POST_CODE, EV_ACTION, EV_IPL or EV_EFI_ACTION: UTF-8, a character or more, and of ASCII printable ones,
- * tabs, line feeds and carriage returns alone. TPM_TEXT_UTF16: it is in `view`, and the type is EV_IPL, with such characters of ASCII, or
- * EV_S_CRTM_VERSION, where the units are not judged, and 16 bytes that are no such text are a GUID. TPM_LOG_DONE: they are none, or
- * the type is another; `view` stays as it was. */
+/* Tells the text that these bytes, the data of a record of this type, are, all of them but for a zero that ends it, or in UTF-16 of
+ * EV_IPL for zeros. TPM_TEXT: it is in `view`, and the type is EV_POST_CODE, EV_ACTION, EV_IPL or EV_EFI_ACTION: UTF-8, a character or
+ * more, and of ASCII printable ones, tabs, line feeds and carriage returns alone. TPM_TEXT_UTF16: it is in `view`, and the type is
+ * EV_IPL, with such characters of ASCII, or EV_S_CRTM_VERSION, where the units are not judged, and 16 bytes that are no such text are a
+ * GUID. TPM_LOG_DONE: they are none, or the type is another; `view` stays as it was. */
 uint32_t tpm_log_text(uint32_t kind, const uint8_t *bytes, size_t len, struct tpm_part *view);
 
 /* A variable of the firmware, by its parts in the data of a record: the vendor's GUID, 16 bytes as they lie in memory; the name in
@@ -944,6 +944,7 @@ uint32_t tpm_policy_auth_value(struct tpm_policy *policy);
 #define TPM_RC_HANDLE                ((uint32_t)0x08B)
 #define TPM_RC_AUTH_FAIL             ((uint32_t)0x08E)
 #define TPM_RC_NONCE                 ((uint32_t)0x08F)
+#define TPM_RC_SCHEME                ((uint32_t)0x092)
 #define TPM_RC_SIZE                  ((uint32_t)0x095)
 #define TPM_RC_SYMMETRIC             ((uint32_t)0x096)
 #define TPM_RC_INSUFFICIENT          ((uint32_t)0x09A)

@@ -13,7 +13,7 @@ import (
 )
 
 // Selection is the TPML_PCR_SELECTION of registers as tpm2-tools list them, "sha1:7+sha256:0,1,2" or "sha256:all", or
-// ErrList.
+// from one to another, "sha256:0-7"; else ErrList.
 func Selection(text string) ([]byte, error) {
 	spelled := make([]byte, C.TPM_SELECTION_BYTES)
 	if C.tpm_selection(place([]byte(text)), C.size_t(len(text)), place(spelled), size(spelled)) == 0 {

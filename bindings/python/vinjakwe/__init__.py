@@ -62,9 +62,9 @@ CODES = {
     "AUTH_UNAVAILABLE": 0x12F, "COMMAND_SIZE": 0x142, "COMMAND_CODE": 0x143, "AUTHSIZE": 0x144, "AUTH_CONTEXT": 0x145,
     "NV_RANGE": 0x146, "NV_AUTHORIZATION": 0x149, "NV_UNINITIALIZED": 0x14A, "NV_SPACE": 0x14B, "NV_DEFINED": 0x14C,
     "SESSION_MEMORY": 0x903, "LOCALITY": 0x907, "REFERENCE_H0": 0x910, "REFERENCE_S0": 0x918, "ATTRIBUTES": 0x082,
-    "HASH": 0x083, "VALUE": 0x084, "MODE": 0x089, "HANDLE": 0x08B, "AUTH_FAIL": 0x08E, "NONCE": 0x08F, "SIZE": 0x095,
-    "SYMMETRIC": 0x096, "INSUFFICIENT": 0x09A, "POLICY_FAIL": 0x09D, "INTEGRITY": 0x09F, "RESERVED_BITS": 0x0A1,
-    "BAD_AUTH": 0x0A2, "POLICY_CC": 0x0A4,
+    "HASH": 0x083, "VALUE": 0x084, "MODE": 0x089, "HANDLE": 0x08B, "AUTH_FAIL": 0x08E, "NONCE": 0x08F, "SCHEME": 0x092,
+    "SIZE": 0x095, "SYMMETRIC": 0x096, "INSUFFICIENT": 0x09A, "POLICY_FAIL": 0x09D, "INTEGRITY": 0x09F,
+    "RESERVED_BITS": 0x0A1, "BAD_AUTH": 0x0A2, "POLICY_CC": 0x0A4,
 }
 _DONE, _REFUSED, _NO_ROOM, _NO_COMMAND = range(4)
 _FRAMER_MORE, _FRAMER_READY, _FRAMER_BROKEN = range(3)
@@ -1052,8 +1052,7 @@ _CONTENTS: dict[int, Callable[[bytes, _Content], Content]] = {
 
 
 class SecureBootState(enum.Enum):
-    """SecureBoot was 1, and PK, KEK, db and an authority are there; it was 0; or it had no byte, or was not
-    measured."""
+    """SecureBoot was 1, PK, KEK and db held something, and there is an authority; it was 0; or it had no byte."""
 
     ON, OFF, UNSET = 48, 49, 50
 
@@ -1100,8 +1099,8 @@ _GENERATED = b"\xffTCG"
 
 
 def selection(text: str) -> bytes:
-    """The TPML_PCR_SELECTION of registers as tpm2-tools list them: `sha1:7+sha256:0,1,2`, or `sha256:all`. Raises
-    ValueError."""
+    """The TPML_PCR_SELECTION of registers as tpm2-tools list them: `sha1:7+sha256:0,1,2`, or `sha256:all`; or from one
+    to another, `sha256:0-7`. Raises ValueError."""
     out = (c_uint8 * SELECTION_BYTES)()
     if not _lend(_library.tpm_selection, (text.encode(),), out, SELECTION_BYTES):
         raise ValueError(f"{text!r} is no list of registers, as sha256:0,1,2 or sha256:all")

@@ -1,7 +1,7 @@
 """python -m vinjakwe check LOG [--attest FILE [--nonce HEX | --any-nonce] [--require LIST | --any-selection]
 [--hash NAME]]: a log's registers, or what a quote as it was signed says and what is said of it beside the log, as
 tpmtool prints them. The status is 0, or 1 for a mismatch, a refusal or a fault, and where nothing says which nonce and
-which registers are wanted."""
+which registers are wanted; 2 for wrong words, and 3 for a file that can't be read."""
 from __future__ import annotations
 
 import argparse

@@ -7,7 +7,8 @@ use core::fmt;
 pub struct Selection([u8; c::TPM_SELECTION_BYTES]);
 
 impl Selection {
-    /// What tpm2-tools' lists say, as `sha1:7+sha256:0,1,2` or `sha256:all`, or none where the text is no such list.
+    /// What tpm2-tools' lists say, as `sha1:7+sha256:0,1,2` or `sha256:all`, or from one to another, `sha256:0-7`; none
+    /// where the text is no such list.
     pub fn of(text: &str) -> Option<Self> {
         let mut spelled = [0; c::TPM_SELECTION_BYTES];
         // SAFETY: the text is there for the call, and so many bytes, and nothing else is written.

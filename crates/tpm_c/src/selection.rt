@@ -21,9 +21,10 @@ fn put_spelling(out: &mut [u8], listed: &Selections) -> usize
     put_in_room(out, spelled.as_slice())
 }
 
-/// Writes the registers that a text lists as tpm2-tools do, `sha1:7+sha256:0,1,2` or `sha256:all`, to the beginning of
-/// `out` as a TPML_PCR_SELECTION (Part 2, 10.9.7), and says how many bytes it has: 22, with an entry for each bank. It
-/// answers 0, and nothing is written, for any other text and where there is less room.
+/// Writes the registers that a text lists as tpm2-tools do, `sha1:7+sha256:0,1,2` or `sha256:all`, or from one to
+/// another, `sha256:0-7`, to the beginning of `out` as a TPML_PCR_SELECTION (Part 2, 10.9.7), and says how many bytes
+/// it has: 22, with an entry for each bank. It answers 0, and nothing is written, for any other text and where there is
+/// less room.
 #[unsafe(no_mangle)]
 pub extern "C" fn tpm_selection(text: &[u8], out: &mut [u8]) -> usize
     ensures { IsSelectionTold text.now (record { answer = result; old = out.old; new = out.new }) }

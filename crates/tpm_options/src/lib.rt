@@ -21,7 +21,7 @@ pub struct CaptureTask<'a> {
 /// Packets of which each frame is printed that went over a simulator's port.
 #[derive(Drop)]
 pub struct PacketsTask<'a> {
-    /// The path of a file of libpcap.
+    /// The path of a file of libpcap or of pcapng.
     pub file: &'a str,
     /// The port.
     pub port: u16,
