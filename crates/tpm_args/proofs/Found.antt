@@ -2,9 +2,7 @@
 use Rattle.std.proofs.Common.{◌≡◌, ap, sym, subst, refl, ◌∙◌, Bool, true, false, inl, inr, codes, List, [], map, ◌⊎◌}
 use Rattle.std.proofs.Common.{Option, Some, None, option_map}
 use Rattle.std.specs.Prelude.{◌&&◌, not, is_some, Box, Result, Ok, Err, IfOk, IfErr, MatchResult}
-use Rattle.std.specs.Borrow.{Bor}
 use Rattle.std.specs.Box.{box_value}
-use Rattle.std.specs.Option.{MatchOption}
 use Rattle.std.specs.Str.{bytes_eq}
 use Rattle.clap.specs.Matches.{subcommand_name_of, first_value}
 use Rattle.clap.specs.Walk.{Row, Text, first_of, rows_of}
@@ -33,7 +31,7 @@ use Rattle.tpm_args.specs.declared.task.Task.{Task}
 use Rattle.tpm_args.specs.declared.stop.Stop.TheVariants.{Help, Usage, Memory}
 use Rattle.tpm_args.specs.declared.stop.Stop.{Stop}
 use Rattle.tpm_words.specs.Program.{program_app}
-use Rattle.tpm_args.specs.Task.{Asks, AsksNothing, AreListed, AreOptions, AsksWith, is_bare, is_given, is_uncompared}
+use Rattle.tpm_args.specs.Task.{Asks, AsksNothing, AreOptions, AsksWith, IsValueIf, is_bare, is_given, is_uncompared}
 use Rattle.tpm_args.specs.Stop.{IsHelp, Refuses, StopsFor}
 use Rattle.tpm_args.specs.inner.Stop.{IsMemoryOr}
 use Rattle.tpm_args.specs.inner.Task.{AsksNothingWith}
@@ -44,9 +42,9 @@ some x y e = cc
 opposite_ends : true ≡ false → ⊥
 opposite_ends e = absurd cc
 
--- The name of `check` is no other one.
-other : (name : Text) → bytes_eq name (codes "check") ≡ false → codes "check" ≡ name → ⊥
-other name differs e = opposite_ends (ap (λ (x : Text). bytes_eq x (codes "check")) e ∙ differs)
+-- The name of a subcommand is no other one.
+other : (name met : Text) → bytes_eq met met ≡ true → bytes_eq name met ≡ false → met ≡ name → ⊥
+other name met same differs e = opposite_ends (sym same ∙ (ap (λ (x : Text). bytes_eq x met) e ∙ differs))
 
 -- No task has the name of `check` but its two.
 asks_no_check : (value : Text → Option Text)
@@ -55,16 +53,16 @@ asks_no_check : (value : Text → Option Text)
     → AsksNothingWith (codes "check") value
 asks_no_check value checks lists (Check task) h = checks task h
 asks_no_check value checks lists (CheckListed task) h = lists task h
-asks_no_check value checks lists (Show reply fields hex) h = absurd (other (codes "show") refl h.0)
-asks_no_check value checks lists (ShowCapture task) h = absurd (other (codes "show") refl h.0)
-asks_no_check value checks lists (ShowPackets task) h = absurd (other (codes "show") refl h.0)
-asks_no_check value checks lists (ShowNv file) h = absurd (other (codes "show") refl h.0)
-asks_no_check value checks lists (Build code handles sessions parameters) h = absurd (other (codes "build") refl h.0)
-asks_no_check value checks lists (Run owner greatest) h = absurd (other (codes "run") refl h.0)
-asks_no_check value checks lists (Explain code) h = absurd (other (codes "explain") refl h.0)
-asks_no_check value checks lists (ExplainName word) h = absurd (other (codes "explain") refl h.0)
-asks_no_check value checks lists (Events task) h = absurd (other (codes "events") refl h.0)
-asks_no_check value checks lists (EventsHeader task) h = absurd (other (codes "events") refl h.0)
+asks_no_check value checks lists (Show reply fields hex) h = absurd (other (codes "show") (codes "check") refl refl h.0)
+asks_no_check value checks lists (ShowCapture task) h = absurd (other (codes "show") (codes "check") refl refl h.0)
+asks_no_check value checks lists (ShowPackets task) h = absurd (other (codes "show") (codes "check") refl refl h.0)
+asks_no_check value checks lists (ShowNv file) h = absurd (other (codes "show") (codes "check") refl refl h.0)
+asks_no_check value checks lists (Build code handles sessions parameters) h = absurd (other (codes "build") (codes "check") refl refl h.0)
+asks_no_check value checks lists (Run owner greatest) h = absurd (other (codes "run") (codes "check") refl refl h.0)
+asks_no_check value checks lists (Explain code) h = absurd (other (codes "explain") (codes "check") refl refl h.0)
+asks_no_check value checks lists (ExplainName word) h = absurd (other (codes "explain") (codes "check") refl refl h.0)
+asks_no_check value checks lists (Events task) h = absurd (other (codes "events") (codes "check") refl refl h.0)
+asks_no_check value checks lists (EventsHeader task) h = absurd (other (codes "events") (codes "check") refl refl h.0)
 
 -- No task of `check` has options whose words are not in order.
 pub not_asked : (value : Text → Option Text) → ((options : CheckOptions) → AreOptions value options → ⊥) → AsksNothingWith (codes "check") value
@@ -76,27 +74,23 @@ pub not_listed_alone : (value : Text → Option Text) → is_given (value (codes
 not_listed_alone value given others =
     asks_no_check value (λ task h. opposite_ends (sym given ∙ h.3)) (λ task h. opposite_ends (sym h.3 ∙ others))
 
--- The name of `events` is no other one.
-other_than_events : (name : Text) → bytes_eq name (codes "events") ≡ false → codes "events" ≡ name → ⊥
-other_than_events name differs e = opposite_ends (ap (λ (x : Text). bytes_eq x (codes "events")) e ∙ differs)
-
--- No task has that name but its two.
+-- No task has the name of `events` but its two.
 asks_no_events : (value : Text → Option Text)
     → ((task : EventsTask) → AsksWith (codes "events") value (Events task) → ⊥)
     → ((task : LogTask) → AsksWith (codes "events") value (EventsHeader task) → ⊥)
     → AsksNothingWith (codes "events") value
 asks_no_events value lists tells (Events task) h = lists task h
 asks_no_events value lists tells (EventsHeader task) h = tells task h
-asks_no_events value lists tells (Check task) h = absurd (other_than_events (codes "check") refl h.0)
-asks_no_events value lists tells (CheckListed task) h = absurd (other_than_events (codes "check") refl h.0)
-asks_no_events value lists tells (Show reply fields hex) h = absurd (other_than_events (codes "show") refl h.0)
-asks_no_events value lists tells (ShowCapture task) h = absurd (other_than_events (codes "show") refl h.0)
-asks_no_events value lists tells (ShowPackets task) h = absurd (other_than_events (codes "show") refl h.0)
-asks_no_events value lists tells (ShowNv file) h = absurd (other_than_events (codes "show") refl h.0)
-asks_no_events value lists tells (Build code handles sessions parameters) h = absurd (other_than_events (codes "build") refl h.0)
-asks_no_events value lists tells (Run owner greatest) h = absurd (other_than_events (codes "run") refl h.0)
-asks_no_events value lists tells (Explain code) h = absurd (other_than_events (codes "explain") refl h.0)
-asks_no_events value lists tells (ExplainName word) h = absurd (other_than_events (codes "explain") refl h.0)
+asks_no_events value lists tells (Check task) h = absurd (other (codes "check") (codes "events") refl refl h.0)
+asks_no_events value lists tells (CheckListed task) h = absurd (other (codes "check") (codes "events") refl refl h.0)
+asks_no_events value lists tells (Show reply fields hex) h = absurd (other (codes "show") (codes "events") refl refl h.0)
+asks_no_events value lists tells (ShowCapture task) h = absurd (other (codes "show") (codes "events") refl refl h.0)
+asks_no_events value lists tells (ShowPackets task) h = absurd (other (codes "show") (codes "events") refl refl h.0)
+asks_no_events value lists tells (ShowNv file) h = absurd (other (codes "show") (codes "events") refl refl h.0)
+asks_no_events value lists tells (Build code handles sessions parameters) h = absurd (other (codes "build") (codes "events") refl refl h.0)
+asks_no_events value lists tells (Run owner greatest) h = absurd (other (codes "run") (codes "events") refl refl h.0)
+asks_no_events value lists tells (Explain code) h = absurd (other (codes "explain") (codes "events") refl refl h.0)
+asks_no_events value lists tells (ExplainName word) h = absurd (other (codes "explain") (codes "events") refl refl h.0)
 
 -- No task of `events` has options whose words are not in order.
 pub not_listed : (value : Text → Option Text) → ((options : CheckOptions) → AreOptions value options → ⊥) → AsksNothingWith (codes "events") value
@@ -106,16 +100,16 @@ not_listed value none =
 -- Where it is bare no registers are listed.
 bare_registers : (registers attest : Option Text) (places digests event-data : Bool)
     → (((((not (is_some registers) && not (is_some attest)) && not places) && not digests) && not event-data) ≡ true)
-    → AreListed registers None
+    → IsValueIf IsRegisterList registers None
 bare_registers None attest places digests event-data h = refl
 bare_registers (Some text) attest places digests event-data h = let z : ⊥ = cc in absurd z
 
 -- Neither has a list of registers that is none.
 pub no_registers : (value : Text → Option Text) (given : Option Text) → given ≡ value (codes "register")
-    → ((registers : Option RegisterList) → AreListed given registers → ⊥) → AsksNothingWith (codes "events") value
+    → ((registers : Option RegisterList) → IsValueIf IsRegisterList given registers → ⊥) → AsksNothingWith (codes "events") value
 no_registers value given is none =
-    let no : (registers : Option RegisterList) → AreListed (value (codes "register")) registers → ⊥ =
-    λ registers h. none registers (subst (λ (g : Option Text). AreListed g registers) (sym is) h) in
+    let no : (registers : Option RegisterList) → IsValueIf IsRegisterList (value (codes "register")) registers → ⊥ =
+    λ registers h. none registers (subst (λ (g : Option Text). IsValueIf IsRegisterList g registers) (sym is) h) in
     asks_no_events value (λ task h. no task.listing.registers h.5.0)
     (λ task h. no None (bare_registers (value (codes "register")) (value (codes "attest"))
     (is_given (value (codes "places"))) (is_given (value (codes "digests"))) (is_given (value (codes "data"))) h.3))
@@ -180,21 +174,15 @@ pub asks_nothing : (m : ArgMatches) (name : Text) (f : Found) → subcommand_nam
     → AsksNothingWith name (first_value f) → AsksNothing (subcommand_rows_of m)
 asks_nothing m name f n r none = λ t h. none t (met_back (subcommand_rows_of m) name f t (named m ∙ n) r h)
 
--- an answer with a reason, where the one follows from the other
-pub match_then : {A : Type 0} (o : Option A) {N M : Type 0} {P Q : A → Type 0} → MatchOption o N P → (N → M) → ((x : A) → P x → Q x) → MatchOption o M Q
-match_then None h f g = f h
-match_then (Some x) h f g = g x h
-
+-- an answer, where the one follows from the other
 pub memory_or : {N M : Type 0} (stop : Stop) → (N → M) → IsMemoryOr N stop → IsMemoryOr M stop
 memory_or (Help text) f h = h
 memory_or (Usage text) f h = f h
 memory_or Memory f h = tt
 
--- an answer that may be a reason in two ways
-pub result_then : {A : Type 0} (o : Result (Option A) Stop) {N M : Type 0} {P Q : A → Type 0}
-    → MatchResult o (λ asked. MatchOption asked N P) (IsMemoryOr N)
-    → (N → M) → ((x : A) → P x → Q x) → MatchResult o (λ asked. MatchOption asked M Q) (IsMemoryOr M)
-result_then (Ok asked) h f g = match_then asked h f g
+pub result_then : {A : Type 0} (o : Result A Stop) {N M : Type 0} {P Q : A → Type 0} → MatchResult o P (IsMemoryOr N)
+    → (N → M) → ((x : A) → P x → Q x) → MatchResult o Q (IsMemoryOr M)
+result_then (Ok x) h f g = g x h
 result_then (Err stop) h f g = memory_or stop f h
 
 -- clap says exactly what it finds in the program's words
@@ -270,7 +258,7 @@ stops words kind Memory passes fails h = tt
 
 -- A text that lists none is no list that is given.
 pub no_list : (given : Option Text) (text : Text) → given ≡ Some text → ((list : RegisterList) → IsRegisterList text list → ⊥)
-    → (r : Option RegisterList) → AreListed given r → ⊥
+    → (r : Option RegisterList) → IsValueIf IsRegisterList given r → ⊥
 no_list None text is none r h = let z : ⊥ = cc in z
 no_list (Some t) text is none None h = h
 no_list (Some t) text is none (Some list) h = none list (subst (λ (x : Text). IsRegisterList x list) (some t text is) h)

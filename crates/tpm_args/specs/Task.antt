@@ -16,7 +16,6 @@ use Rattle.tpm_args.specs.Names.{command_of_name, is_name}
 use Rattle.tpm_names.specs.Numbers.{IsDecimal, IsHexadecimal, IsPort, IsShortDecimal}
 use Rattle.tpm_args.specs.Owner.{IsOwner, bytes_in}
 use Rattle.tpm_names.specs.Selections.{AreSelections, IsRegisterList}
-use Rattle.tpm_names.specs.declared.selection.RegisterList.{RegisterList}
 use Rattle.tpm_output.specs.declared.form.Form.TheVariants.{Lines, Json}
 use Rattle.tpm_output.specs.declared.form.Form.{Form}
 use Rattle.tpm_args.specs.declared.task.Task.TheVariants.{Show, ShowCapture, ShowPackets, ShowNv, Build, Run, Explain}
@@ -53,40 +52,10 @@ IsName true (Some text) name = ⊥
 IsName false (Some text) name =
     (text ≡ name) × (is_name text ≡ true) × ((code : ℕ) → IsHexadecimal (digits_in text) code → ⊥)
 
--- the name of a hash
-abbrev pub IsHash : Text → Alg → Type 0
-IsHash text hash = text ≡ alg_name hash
-
--- registers by their list, where the option is given
-abbrev pub AreListed : Option Text → Option RegisterList → Type 0
-AreListed None registers = registers ≡ None
-AreListed (Some text) registers = IsSomeAnd registers (IsRegisterList text)
-
--- The one is given only where the other is.
-abbrev pub IsWith : Option Text → Option Text → Type 0
-IsWith None other = Unit {0}
-IsWith (Some text) None = ⊥
-IsWith (Some text) (Some other) = Unit {0}
-
--- The one is given only where one of the others is.
-abbrev pub IsWithEither : Option Text → (other another : Option Text) → Type 0
-IsWithEither option None another = IsWith option another
-IsWithEither option (Some text) another = Unit {0}
-
--- bytes by their hexadecimal digits, where the option is given
-abbrev pub AreBytes : Option Text → Option (Vec ℕ) → Type 0
-AreBytes None bytes = bytes ≡ None
-AreBytes (Some text) bytes = IsSomeAnd bytes (λ v. bytes_in text ≡ Some v.items)
-
--- the registers that a list names, where it is given
-abbrev pub Requires : Option Text → Option (List Selection) → Type 0
-Requires None required = required ≡ None
-Requires (Some text) required = IsSomeAnd required (AreSelections text)
-
--- the hash of a name, where it is given
-abbrev pub IsHashIf : Option Text → Option Alg → Type 0
-IsHashIf None hash = hash ≡ None
-IsHashIf (Some text) hash = IsSomeAnd hash (IsHash text)
+-- This holds of the text and of the value of an option where it is given, and else it has none.
+abbrev pub IsValueIf : {A : Type 0} → (Text → A → Type 0) → Option Text → Option A → Type 0
+IsValueIf P None value = value ≡ None
+IsValueIf P (Some text) value = IsSomeAnd value (P text)
 
 -- the files of a check
 abbrev pub AreFiles : (Text → Option Text) → CheckFiles → Type 0
@@ -142,19 +111,23 @@ DigestsGoTogether value =
     (goes_with (is_some (value (codes "allow"))) (is_some (value (codes "attest")) && has_neither value) ≡ true)
     × (goes_with (is_given (value (codes "extends"))) (is_alone value) ≡ true)
 
--- what is expected of quotes: bytes of this name, and a list of registers, go with a quote as it was signed, and a hash
--- with it or with the information of a quote
+-- what is expected of quotes: bytes of this name by their hexadecimal digits, and a list of registers, go with a quote
+-- as it was signed, and a hash of this name with it or with the information of a quote
 abbrev pub IsExpected : (Text → Option Text) → Text → Option (Vec ℕ) → Type 0
-IsExpected value name bytes = IsWith (value name) (value (codes "attest")) × AreBytes (value name) bytes
+IsExpected value name bytes =
+    IsValueIf (λ text (v : Vec ℕ). (is_some (value (codes "attest")) ≡ true) × (bytes_in text ≡ Some v.items))
+    (value name) bytes
 
 abbrev pub IsRequired : (Text → Option Text) → Option (List Selection) → Type 0
 IsRequired value required =
-    IsWith (value (codes "require")) (value (codes "attest")) × Requires (value (codes "require")) required
+    IsValueIf (λ text selections. (is_some (value (codes "attest")) ≡ true) × AreSelections text selections)
+    (value (codes "require")) required
 
 abbrev pub IsHashExpected : (Text → Option Text) → Option Alg → Type 0
 IsHashExpected value hash =
-    IsHashIf (value (codes "hash")) hash
-    × IsWithEither (value (codes "hash")) (value (codes "quote")) (value (codes "attest"))
+    IsValueIf (λ text hash. (text ≡ alg_name hash)
+    × ((is_some (value (codes "quote")) || is_some (value (codes "attest"))) ≡ true))
+    (value (codes "hash")) hash
 
 abbrev pub AreExpected : (Text → Option Text) → CheckOptions → Type 0
 AreExpected value o =
@@ -184,7 +157,7 @@ IsLog value l = (value (codes "LOG") ≡ Some l.log.now) × (l.form ≡ form_ask
 -- what is listed of one
 abbrev pub IsListing : (Text → Option Text) → Listing → Type 0
 IsListing value l =
-    AreListed (value (codes "register")) l.registers
+    IsValueIf IsRegisterList (value (codes "register")) l.registers
     × (l.places ≡ is_given (value (codes "places")))
     × (l.digests ≡ is_given (value (codes "digests")))
     × (l.event_data ≡ is_given (value (codes "data")))

@@ -1,4 +1,3 @@
 -- Definitions that serve proofs alone: no contract that is handed out names them.
-pub mod Owner
 pub mod Stop
 pub mod Task

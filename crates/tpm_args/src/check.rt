@@ -1,41 +1,39 @@
 //! The words of the subcommand `check`, of which those on a quote as it was signed are those of `events`, too.
 
-ghost use Rattle.std.specs.Prelude.{◌≡◌, ◌&&◌, ◌||◌, ℕ, Option, List, MatchOption, MatchResult, codes, false, is_some};
-ghost use Rattle.std.specs.Prelude.{not, option_map, true};
+ghost use Rattle.std.specs.Prelude.{◌≡◌, ℕ, Option, List, MatchOption, MatchResult, codes, false, is_some, true};
 ghost use Rattle.std.specs.Global.{Vec as VecValue};
 ghost use Rattle.clap.specs.Words.{first_value, found_of};
+ghost use Rattle.tpm_types.specs.Alg.{alg_name};
 ghost use Rattle.tpm_types.specs.declared.alg.Alg.{Alg as AlgValue};
 ghost use Rattle.tpm_types.specs.declared.tpms.Selection.{Selection as SelectionValue};
 ghost use Rattle.tpm_options.specs.declared.CheckOptions.{CheckOptions as CheckOptionsValue};
 ghost use Rattle.tpm_args.specs.inner.Stop.{IsAsked, IsMemoryOr};
-ghost use Rattle.tpm_args.specs.Task.{AreBytes, AreOptions, DigestsGoTogether, GoTogether, IsHash, IsHashIf};
-ghost use Rattle.tpm_args.specs.Task.{form_asked, goes_with, has_neither, is_alone, is_uncompared};
-ghost use Rattle.tpm_args.specs.Task.{IsExpected, IsHashExpected, IsRequired, IsWith, IsWithEither};
+ghost use Rattle.tpm_args.specs.Task.{AreOptions, DigestsGoTogether, GoTogether, form_asked, has_neither, is_alone};
+ghost use Rattle.tpm_args.specs.Task.{is_uncompared, IsExpected, IsHashExpected, IsRequired};
 
 use crate::bytes::bytes_in;
-use crate::given::{form_asked, is_given};
-use crate::invalid::{Subcommand, Usage, invalid_value, not_hexadecimal, wrong_words};
+use crate::given::{form_asked, has, is_given};
+use crate::invalid::{Usage, check_value, check_words, invalid_value, nothing_asked};
 use crate::stop::Stop;
 use crate::task::{Asked, Task};
 use clap::ArgMatches;
-use std::alloc::Global;
 use tpm_names::selection::selections;
 use tpm_options::{CheckFiles, CheckOptions, CheckTask, LogTask};
 use tpm_types::{Alg, Selections};
+use tpm_words::Subcommand;
 
 /// The task of the words of `check`.
-pub(crate) fn check_task<'a>(alloc: Global, words: &ArgMatches<'a>) -> Asked<'a>
+pub(crate) fn check_task<'a>(usage: Usage, words: &ArgMatches<'a>) -> Asked<'a>
     ensures { IsAsked (codes "check") words.now result }
 {
     let Some(log) = words.get_str("LOG") else {
-        return Ok(None);
+        return Err(nothing_asked(usage.alloc)?);
     };
-    let usage = Subcommand::Check.usage(alloc);
     let options = options(usage, words)?;
     if is_given(words, "listed") {
-        let alone = is_without(is_uncompared(words), is_given(words, "extends"));
-        check_flag(usage, alone, "--listed goes with --json alone")?;
-        return Ok(Some(Task::CheckListed(log_task(words, log))));
+        let alone = is_uncompared(words) & !is_given(words, "extends");
+        check_words(usage, alone, "--listed goes with --json alone")?;
+        return Ok(Task::CheckListed(log_task(words, log)));
     }
     let files = CheckFiles {
         log,
@@ -43,7 +41,7 @@ pub(crate) fn check_task<'a>(alloc: Global, words: &ArgMatches<'a>) -> Asked<'a>
         attest: words.get_str("attest"),
         allow: words.get_str("allow"),
     };
-    Ok(Some(Task::Check(CheckTask { files, options })))
+    Ok(Task::Check(CheckTask { files, options }))
 }
 
 /// This log, by itself.
@@ -74,7 +72,7 @@ pub(crate) fn options<'a>(usage: Usage, words: &ArgMatches<'a>) -> Result<CheckO
         nonce,
         any_nonce: is_given(words, "any-nonce"),
         required,
-        any_selection: is_either(is_given(words, "any-selection"), has(words, "allow")),
+        any_selection: is_given(words, "any-selection") | has(words, "allow"),
         signer,
         quote: words.get_str("quote"),
         hash,
@@ -93,22 +91,17 @@ fn check_flags(usage: Usage, words: &ArgMatches<'_>) -> Result<(), Stop>
     let attest = has(words, "attest");
     let secure_boot = is_given(words, "secure-boot");
     let reason = "--secure-boot goes with neither --registers nor --quote";
-    check_flag(usage, goes_with(secure_boot, has_neither(words)), reason)?;
-    let any_state = is_given(words, "any-state");
+    check_words(usage, !secure_boot | has_neither(words), reason)?;
     let reason = "--any-state goes with --secure-boot";
-    check_flag(usage, goes_with(any_state, secure_boot), reason)?;
-    let without_nonce = is_without(attest, has(words, "nonce"));
+    check_words(usage, !is_given(words, "any-state") | secure_boot, reason)?;
+    let without_nonce = attest & !has(words, "nonce");
     let reason = "--any-nonce goes with --attest, and not with --nonce";
-    check_flag(
-        usage,
-        goes_with(is_given(words, "any-nonce"), without_nonce),
-        reason,
-    )?;
-    let without_list = is_without(attest, has(words, "require"));
+    check_words(usage, !is_given(words, "any-nonce") | without_nonce, reason)?;
+    let without_list = attest & !has(words, "require");
     let reason = "--any-selection goes with --attest, and not with --require";
-    check_flag(
+    check_words(
         usage,
-        goes_with(is_given(words, "any-selection"), without_list),
+        !is_given(words, "any-selection") | without_list,
         reason,
     )
 }
@@ -118,116 +111,32 @@ fn check_digests(usage: Usage, words: &ArgMatches<'_>) -> Result<(), Stop>
     ensures { MatchResult result (λ _. DigestsGoTogether (first_value (found_of words.now)))
         (IsMemoryOr (DigestsGoTogether (first_value (found_of words.now)) → ⊥)) }
 {
-    let beside = are_both(has(words, "attest"), has_neither(words));
+    let beside = has(words, "attest") & has_neither(words);
     let reason = "--allow goes with --attest, and with neither --registers nor --quote";
-    check_flag(usage, goes_with(has(words, "allow"), beside), reason)?;
+    check_words(usage, !has(words, "allow") | beside, reason)?;
     let reason = "--extends goes alone";
-    check_flag(
-        usage,
-        goes_with(is_given(words, "extends"), is_alone(words)),
-        reason,
-    )
+    check_words(usage, !is_given(words, "extends") | is_alone(words), reason)
 }
 
 // Whether neither a list of registers nor the information of a quote is given.
 fn has_neither(words: &ArgMatches<'_>) -> bool
     ensures { result ≡ has_neither (first_value (found_of words.now)) }
 {
-    is_without(!has(words, "registers"), has(words, "quote"))
+    !has(words, "registers") & !has(words, "quote")
 }
 
 // Whether that is so, and neither a quote as it was signed is given nor Secure Boot asked for.
 fn is_uncompared(words: &ArgMatches<'_>) -> bool
     ensures { result ≡ is_uncompared (first_value (found_of words.now)) }
 {
-    let unsigned = is_without(has_neither(words), has(words, "attest"));
-    is_without(unsigned, is_given(words, "secure-boot"))
+    has_neither(words) & !has(words, "attest") & !is_given(words, "secure-boot")
 }
 
 // Whether that is so, and no JSON is asked for.
 fn is_alone(words: &ArgMatches<'_>) -> bool
     ensures { result ≡ is_alone (first_value (found_of words.now)) }
 {
-    is_without(is_uncompared(words), is_given(words, "json"))
-}
-
-/// Whether the option of this name is given.
-pub(crate) fn has(words: &ArgMatches<'_>, name: &str) -> bool
-    ensures { result ≡ is_some (first_value (found_of words.now) name.now) }
-{
-    words.get_str(name).is_some()
-}
-
-fn are_both(one: bool, other: bool) -> bool
-    ensures { result ≡ (one && other) }
-{
-    one && other
-}
-
-fn is_either(one: bool, other: bool) -> bool
-    ensures { result ≡ (one || other) }
-{
-    one || other
-}
-
-/// Whether the one holds, and not the other.
-pub(crate) fn is_without(one: bool, other: bool) -> bool
-    ensures { result ≡ (one && not other) }
-{
-    one && !other
-}
-
-// Whether a flag is not given, or this holds.
-fn goes_with(flag: bool, holds: bool) -> bool
-    ensures { result ≡ goes_with flag holds }
-{
-    !flag || holds
-}
-
-/// A usage fault for this reason, where that doesn't hold.
-pub(crate) fn check_flag(usage: Usage, holds: bool, reason: &str) -> Result<(), Stop>
-    ensures { MatchResult result (λ _. holds ≡ true) (IsMemoryOr (holds ≡ false)) }
-{
-    if holds {
-        return Ok(());
-    }
-    Err(wrong_words(usage, reason))
-}
-
-// A usage fault where this word is given without a quote as it was signed.
-fn with_attest(
-    usage: Usage,
-    given: Option<&str>,
-    word: &str,
-    attest: Option<&str>,
-) -> Result<(), Stop>
-    ensures { MatchResult result
-        (λ _. IsWith (option_map (λ g. g.now) given.entry) (option_map (λ a. a.now) attest.entry))
-        (IsMemoryOr (IsWith
-        (option_map (λ g. g.now) given.entry) (option_map (λ a. a.now) attest.entry) → ⊥)) }
-{
-    match (given, attest) {
-        (Some(text), None) => {
-            let reason = "no --attest is given";
-            Err(invalid_value(usage, text, word, reason))
-        }
-        _ => Ok(()),
-    }
-}
-
-// The bytes of hexadecimal digits, where they are given. A usage fault where they are none.
-fn bytes(usage: Usage, text: Option<&str>, word: &str) -> Result<Option<Vec<u8>>, Stop>
-    ensures { MatchResult result (λ bytes. AreBytes (option_map (λ t. t.now) text.entry) bytes)
-        (IsMemoryOr ((bytes : Option (VecValue ℕ))
-        → AreBytes (option_map (λ t. t.now) text.entry) bytes → ⊥)) }
-{
-    let Some(text) = text else {
-        return Ok(None);
-    };
-    match bytes_in(usage.alloc, text)? {
-        Some(bytes) => Ok(Some(bytes)),
-        None => Err(not_hexadecimal(usage, text, word)),
-    }
+    is_uncompared(words) & !is_given(words, "json")
 }
 
 // The bytes that are expected of a quote, where a word is given. A usage fault where it has none, or no quote as it was
@@ -243,39 +152,14 @@ fn bytes_expected(
         (IsMemoryOr ((bytes : Option (VecValue ℕ))
         → IsExpected (first_value (found_of words.now)) name.now bytes → ⊥)) }
 {
-    let text = words.get_str(name);
-    with_attest(usage, text, word, words.get_str("attest"))?;
-    bytes(usage, text, word)
+    let Some(text) = words.get_str(name) else {
+        return Ok(None);
+    };
+    check_value(usage, has(words, "attest"), text, word, NO_ATTEST)?;
+    Ok(Some(bytes_in(usage, text, word)?))
 }
 
-// Why a hash is at fault without a quote.
-fn without_quote(of: Subcommand) -> &'static str {
-    match of {
-        Subcommand::Check => "no --quote or --attest is given",
-        _ => "no --attest is given",
-    }
-}
-
-// A usage fault where a hash is given without a quote.
-fn with_quote(
-    usage: Usage,
-    name: Option<&str>,
-    quote: Option<&str>,
-    attest: Option<&str>,
-) -> Result<(), Stop>
-    ensures { MatchResult result (λ _. IsWithEither (option_map (λ n. n.now) name.entry)
-        (option_map (λ q. q.now) quote.entry) (option_map (λ a. a.now) attest.entry))
-        (IsMemoryOr (IsWithEither (option_map (λ n. n.now) name.entry)
-        (option_map (λ q. q.now) quote.entry) (option_map (λ a. a.now) attest.entry) → ⊥)) }
-{
-    match (name, quote, attest) {
-        (Some(text), None, None) => {
-            let reason = without_quote(usage.of);
-            Err(invalid_value(usage, text, "--hash <NAME>", reason))
-        }
-        _ => Ok(()),
-    }
-}
+const NO_ATTEST: &str = "no --attest is given";
 
 // The registers that have to be selected, where a list is given. A usage fault where it is none, or no quote as it was
 // signed is given.
@@ -285,43 +169,31 @@ fn required(usage: Usage, words: &ArgMatches<'_>) -> Result<Option<Selections>, 
         (IsMemoryOr ((required : Option (List SelectionValue))
         → IsRequired (first_value (found_of words.now)) required → ⊥)) }
 {
-    let list = words.get_str("require");
-    with_attest(usage, list, "--require <LIST>", words.get_str("attest"))?;
-    let Some(text) = list else {
+    let Some(text) = words.get_str("require") else {
         return Ok(None);
     };
-    match selections(text) {
-        Some(required) => Ok(Some(required)),
-        None => {
-            let reason = "it is no list of registers, as sha1:7+sha256:0,1,2 or sha256:all";
-            Err(invalid_value(usage, text, "--require <LIST>", reason))
-        }
+    let word = "--require <LIST>";
+    check_value(usage, has(words, "attest"), text, word, NO_ATTEST)?;
+    if let Some(required) = selections(text) {
+        return Ok(Some(required));
     }
+    let reason = "it is no list of registers, as sha1:7+sha256:0,1,2 or sha256:all";
+    Err(invalid_value(usage, text, word, reason)?)
 }
 
 // The hash of this name.
 fn hash_named(text: &str) -> Option<Alg>
-    ensures { MatchOption result
-        ((hash : AlgValue) → IsHash text.now hash → ⊥) (λ hash. IsHash text.now hash) }
+    ensures { MatchOption result ((hash : AlgValue) → text.now ≡ alg_name hash → ⊥)
+        (λ hash. text.now ≡ alg_name hash) }
 {
     Alg::ALL.iter().copied().find(|hash| hash.name() == text)
 }
 
-// The hash of this name, where it is given. A usage fault where none has it.
-fn hash(usage: Usage, name: Option<&str>) -> Result<Option<Alg>, Stop>
-    ensures { MatchResult result (λ hash. IsHashIf (option_map (λ n. n.now) name.entry) hash)
-        (IsMemoryOr ((hash : Option AlgValue)
-        → IsHashIf (option_map (λ n. n.now) name.entry) hash → ⊥)) }
-{
-    let Some(text) = name else {
-        return Ok(None);
-    };
-    match hash_named(text) {
-        Some(hash) => Ok(Some(hash)),
-        None => {
-            let reason = "it is none of sha1, sha256 and sha384";
-            Err(invalid_value(usage, text, "--hash <NAME>", reason))
-        }
+// Why a hash is at fault without a quote.
+fn without_quote(of: Subcommand) -> &'static str {
+    match of {
+        Subcommand::Check => "no --quote or --attest is given",
+        _ => NO_ATTEST,
     }
 }
 
@@ -331,8 +203,15 @@ fn hash_expected(usage: Usage, words: &ArgMatches<'_>) -> Result<Option<Alg>, St
         (IsMemoryOr ((hash : Option AlgValue)
         → IsHashExpected (first_value (found_of words.now)) hash → ⊥)) }
 {
-    let name = words.get_str("hash");
-    let hash = hash(usage, name)?;
-    with_quote(usage, name, words.get_str("quote"), words.get_str("attest"))?;
-    Ok(hash)
+    let Some(text) = words.get_str("hash") else {
+        return Ok(None);
+    };
+    let word = "--hash <NAME>";
+    let Some(hash) = hash_named(text) else {
+        let reason = "it is none of sha1, sha256 and sha384";
+        return Err(invalid_value(usage, text, word, reason)?);
+    };
+    let quoted = has(words, "quote") | has(words, "attest");
+    check_value(usage, quoted, text, word, without_quote(usage.of))?;
+    Ok(Some(hash))
 }

@@ -1,37 +1,33 @@
 //! The words of the subcommand `explain`.
 
-ghost use Rattle.std.specs.Prelude.{◌≡◌, ℕ, List, Some, MatchOption, codes};
-ghost use Rattle.clap.specs.Words.{first_value, found_of};
+ghost use Rattle.std.specs.Prelude.{◌≡◌, ℕ, List, IfOk, Some, MatchOption, codes};
 ghost use Rattle.tpm_names.specs.Numbers.{IsHexadecimal};
-ghost use Rattle.tpm_args.specs.inner.Stop.{IsAsked, IsMemoryOr};
-ghost use Rattle.tpm_args.specs.Task.{digits_in, AsksWith, IsCode, IsName};
-ghost use Rattle.tpm_args.specs.inner.Task.{AsksNothingWith};
+ghost use Rattle.tpm_args.specs.inner.Stop.{AsksIfAny, IsAsked, IsMemoryOr};
+ghost use Rattle.tpm_args.specs.Task.{digits_in, IsCode, IsName};
 
 use crate::given::is_given;
-use crate::invalid::{Subcommand, invalid_value};
+use crate::invalid::{Usage, invalid_value};
 use crate::name::is_name;
 use crate::stop::Stop;
 use crate::task::{Asked, Task};
 use clap::ArgMatches;
-use std::alloc::Global;
+use std::alloc::AllocError;
 use tpm_names::number::{hexadecimal, short_decimal};
 
 /// The task of the words of `explain`. A usage fault where the word is no number of the radix below 2^32, and in
 /// hexadecimal no name either.
-pub(crate) fn explain_task<'a>(alloc: Global, words: &ArgMatches<'a>) -> Asked<'a>
+pub(crate) fn explain_task<'a>(usage: Usage, words: &ArgMatches<'a>) -> Asked<'a>
     ensures { IsAsked (codes "explain") words.now result }
 {
     match explained(words) {
-        Some(task) => Ok(Some(task)),
-        None => Err(no_code(alloc, words)),
+        Some(task) => Ok(task),
+        None => Err(no_code(usage, words)?),
     }
 }
 
 // A code, or else a name.
 fn explained<'a>(words: &ArgMatches<'a>) -> Option<Task<'a>>
-    ensures { MatchOption result
-        (AsksNothingWith (codes "explain") (first_value (found_of words.now)))
-        (λ t. AsksWith (codes "explain") (first_value (found_of words.now)) t) }
+    ensures { AsksIfAny (codes "explain") words.now result }
 {
     let text = words.get_str("CODE")?;
     let decimal = is_given(words, "decimal");
@@ -83,8 +79,8 @@ fn number_in(decimal: bool, text: &str) -> Option<u32>
     }
 }
 
-fn no_code(alloc: Global, words: &ArgMatches<'_>) -> Stop
-    ensures { IsMemoryOr (Unit {0}) result }
+fn no_code(usage: Usage, words: &ArgMatches<'_>) -> Result<Stop, AllocError>
+    ensures { IfOk result (IsMemoryOr (Unit {0})) }
 {
     let text = words.get_str("CODE").unwrap_or("");
     let reason = if is_given(words, "decimal") {
@@ -92,5 +88,5 @@ fn no_code(alloc: Global, words: &ArgMatches<'_>) -> Stop
     } else {
         "it is no hexadecimal number up to ffffffff"
     };
-    invalid_value(Subcommand::Explain.usage(alloc), text, "<CODE>", reason)
+    invalid_value(usage, text, "<CODE>", reason)
 }

@@ -9,8 +9,6 @@ mod explain;
 mod given;
 mod invalid;
 mod name;
-mod names;
-mod owner;
 mod run;
 mod show;
 mod stop;

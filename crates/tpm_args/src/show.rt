@@ -1,18 +1,18 @@
 //! The words of the subcommand `show`.
 
-ghost use Rattle.std.specs.Prelude.{◌≡◌, ◌≢◌, [], ◌∷◌, MatchOption, None, Some, codes, option_map};
+ghost use Rattle.std.specs.Prelude.{◌≡◌, ◌≢◌, [], ◌∷◌, IfOk, None, Some, codes, option_map};
 ghost use Rattle.clap.specs.Words.{first_value, found_of};
-ghost use Rattle.tpm_args.specs.inner.Stop.{IsAsked, IsMemoryOr};
-ghost use Rattle.tpm_args.specs.Task.{AsksWith, IsInput};
-ghost use Rattle.tpm_args.specs.inner.Task.{AsksNothingWith, HasNone};
+ghost use Rattle.tpm_args.specs.inner.Stop.{AsksIfAny, IsAsked, IsMemoryOr};
+ghost use Rattle.tpm_args.specs.Task.{IsInput};
+ghost use Rattle.tpm_args.specs.inner.Task.{HasNone};
 
-use crate::given::{form_asked, is_given};
-use crate::invalid::{Subcommand, invalid_value, no_command, wrong_words};
+use crate::given::{form_asked, has, is_given};
+use crate::invalid::{Usage, invalid_value, no_command, wrong_words};
 use crate::name::command_named;
 use crate::stop::Stop;
 use crate::task::{Asked, Task};
 use clap::ArgMatches;
-use std::alloc::Global;
+use std::alloc::AllocError;
 use tpm_names::number::port;
 use tpm_options::{CaptureTask, PacketsTask};
 
@@ -23,8 +23,7 @@ const PORT: &str = "2321";
 // response or as a stream, and where the port is no number of one.
 fn shown_packets<'a>(words: &ArgMatches<'a>, file: &'a str) -> Option<Task<'a>>
     requires { first_value (found_of words.now) (codes "pcap") ≡ Some file.now }
-    ensures { MatchOption result (AsksNothingWith (codes "show") (first_value (found_of words.now)))
-        (λ t. AsksWith (codes "show") (first_value (found_of words.now)) t) }
+    ensures { AsksIfAny (codes "show") words.now result }
 {
     if words.get_str("HEX").is_some()
         || words.get_str("file").is_some()
@@ -48,8 +47,7 @@ fn shown_buffer<'a>(words: &ArgMatches<'a>, hex: &'a str) -> Option<Task<'a>>
     requires digits { (first_value (found_of words.now) (codes "HEX") ≡ Some hex.now) × (hex.now ≢ codes "-") }
     requires alone { HasNone (first_value (found_of words.now))
         (codes "file" ∷ codes "nv" ∷ codes "pcap" ∷ codes "port" ∷ []) }
-    ensures { MatchOption result (AsksNothingWith (codes "show") (first_value (found_of words.now)))
-        (λ t. AsksWith (codes "show") (first_value (found_of words.now)) t) }
+    ensures { AsksIfAny (codes "show") words.now result }
 {
     if is_given(words, "binary") || is_given(words, "json") {
         return None;
@@ -70,8 +68,7 @@ fn shown_capture<'a>(words: &ArgMatches<'a>, file: Option<&'a str>) -> Option<Ta
     requires input { (first_value (found_of words.now) (codes "file") ≡ option_map (λ f. f.now) file)
         × IsInput (first_value (found_of words.now) (codes "HEX")) (first_value (found_of words.now) (codes "file")) }
     requires alone { HasNone (first_value (found_of words.now)) (codes "nv" ∷ codes "pcap" ∷ codes "port" ∷ []) }
-    ensures { MatchOption result (AsksNothingWith (codes "show") (first_value (found_of words.now)))
-        (λ t. AsksWith (codes "show") (first_value (found_of words.now)) t) }
+    ensures { AsksIfAny (codes "show") words.now result }
 {
     if words.get_str("reply").is_some() {
         return None;
@@ -89,8 +86,7 @@ fn shown_memory<'a>(words: &ArgMatches<'a>, file: &'a str) -> Option<Task<'a>>
     requires file { first_value (found_of words.now) (codes "nv") ≡ Some file.now }
     requires alone { HasNone (first_value (found_of words.now))
         (codes "HEX" ∷ codes "file" ∷ codes "pcap" ∷ codes "port" ∷ []) }
-    ensures { MatchOption result (AsksNothingWith (codes "show") (first_value (found_of words.now)))
-        (λ t. AsksWith (codes "show") (first_value (found_of words.now)) t) }
+    ensures { AsksIfAny (codes "show") words.now result }
 {
     if words.get_str("reply").is_some()
         || is_given(words, "fields")
@@ -102,13 +98,14 @@ fn shown_memory<'a>(words: &ArgMatches<'a>, file: &'a str) -> Option<Task<'a>>
     Some(Task::ShowNv { file })
 }
 
-// A buffer, a capture or kept NV memory, where no packets are given. None where they have more than one of a buffer and
-// two files, or none, and where a port is given.
-fn shown_without<'a>(words: &ArgMatches<'a>) -> Option<Task<'a>>
-    requires { first_value (found_of words.now) (codes "pcap") ≡ None }
-    ensures { MatchOption result (AsksNothingWith (codes "show") (first_value (found_of words.now)))
-        (λ t. AsksWith (codes "show") (first_value (found_of words.now)) t) }
+// A buffer, a capture, packets or kept NV memory. None where they have more than one of a buffer and three files, or
+// none, and where a port is given without packets.
+fn shown<'a>(words: &ArgMatches<'a>) -> Option<Task<'a>>
+    ensures { AsksIfAny (codes "show") words.now result }
 {
+    if let Some(file) = words.get_str("pcap") {
+        return shown_packets(words, file);
+    }
     if words.get_str("port").is_some() {
         return None;
     }
@@ -121,62 +118,39 @@ fn shown_without<'a>(words: &ArgMatches<'a>) -> Option<Task<'a>>
     }
 }
 
-// A buffer, a capture, packets or kept NV memory.
-fn shown<'a>(words: &ArgMatches<'a>) -> Option<Task<'a>>
-    ensures { MatchOption result (AsksNothingWith (codes "show") (first_value (found_of words.now)))
-        (λ t. AsksWith (codes "show") (first_value (found_of words.now)) t) }
-{
-    match words.get_str("pcap") {
-        Some(file) => shown_packets(words, file),
-        None => shown_without(words),
-    }
-}
-
 // Why they ask for nothing.
 fn fault(words: &ArgMatches<'_>) -> &'static str {
-    match (words.get_str("pcap"), words.get_str("nv")) {
-        (None, _) if words.get_str("port").is_some() => "--port <N> goes with --pcap <FILE>",
-        (None, None) => buffer_fault(words),
-        (Some(_), None) if has_neither(words) =>
-            "--pcap <FILE> goes with --port <N>, --fields and --json alone",
-        (None, Some(_)) if has_neither(words) => "--nv <FILE> goes with no other option",
-        _ => ONE_WANTED,
-    }
-}
-
-const ONE_WANTED: &str =
-    "only one of HEX, -, --file <FILE>, --pcap <FILE> and --nv <FILE> is wanted";
-
-// The same of a buffer or a capture.
-fn buffer_fault(words: &ArgMatches<'_>) -> &'static str {
-    match (words.get_str("HEX"), words.get_str("file")) {
-        (None, None) => "one of HEX, -, --file <FILE>, --pcap <FILE> and --nv <FILE> is wanted",
-        (Some("-"), None) | (None, Some(_)) => {
+    let file = words.get_str("file");
+    match (
+        words.get_str("pcap"),
+        words.get_str("nv"),
+        words.get_str("HEX"),
+        file,
+    ) {
+        (None, ..) if has(words, "port") => "--port <N> goes with --pcap <FILE>",
+        (None, None, None, None) => {
+            "one of HEX, -, --file <FILE>, --pcap <FILE> and --nv <FILE> is wanted"
+        }
+        (Some(_), None, None, None) => {
+            "--pcap <FILE> goes with --port <N>, --fields and --json alone"
+        }
+        (None, Some(_), None, None) => "--nv <FILE> goes with no other option",
+        (None, None, Some("-"), None) | (None, None, None, Some(_)) => {
             "--reply <NAME> goes with HEX alone, since a capture tells replies by its marks"
         }
-        (Some(_), None) => "--binary and --json want a capture: - or --file <FILE>",
-        _ => ONE_WANTED,
+        (None, None, Some(_), None) => "--binary and --json want a capture: - or --file <FILE>",
+        _ => "only one of HEX, -, --file <FILE>, --pcap <FILE> and --nv <FILE> is wanted",
     }
 }
 
-// Whether they have neither a buffer nor a capture.
-fn has_neither(words: &ArgMatches<'_>) -> bool {
-    words.get_str("HEX").is_none() && words.get_str("file").is_none()
-}
-
-// Whether the port is one, or none is given.
-fn is_port(words: &ArgMatches<'_>) -> bool {
-    port(words.get_str("port").unwrap_or(PORT)).is_some()
-}
-
-fn not_shown(alloc: Global, words: &ArgMatches<'_>) -> Stop
-    ensures { IsMemoryOr (Unit {0}) result }
+fn not_shown(usage: Usage, words: &ArgMatches<'_>) -> Result<Stop, AllocError>
+    ensures { IfOk result (IsMemoryOr (Unit {0})) }
 {
-    let usage = Subcommand::Show.usage(alloc);
-    match words.get_str("reply") {
-        Some(name) if command_named(name).is_none() => no_command(usage, name, "--reply <NAME>"),
-        _ if !is_port(words) => {
-            let text = words.get_str("port").unwrap_or("");
+    match (words.get_str("reply"), words.get_str("port")) {
+        (Some(name), _) if command_named(name).is_none() => {
+            no_command(usage, name, "--reply <NAME>")
+        }
+        (_, Some(text)) if port(text).is_none() => {
             let reason = "it is no decimal number up to 65535";
             invalid_value(usage, text, "--port <N>", reason)
         }
@@ -185,11 +159,11 @@ fn not_shown(alloc: Global, words: &ArgMatches<'_>) -> Stop
 }
 
 /// The task of the words of `show`.
-pub(crate) fn show_task<'a>(alloc: Global, words: &ArgMatches<'a>) -> Asked<'a>
+pub(crate) fn show_task<'a>(usage: Usage, words: &ArgMatches<'a>) -> Asked<'a>
     ensures { IsAsked (codes "show") words.now result }
 {
     match shown(words) {
-        Some(task) => Ok(Some(task)),
-        None => Err(not_shown(alloc, words)),
+        Some(task) => Ok(task),
+        None => Err(not_shown(usage, words)?),
     }
 }

@@ -1,6 +1,6 @@
 //! Why the words ask for nothing to be done.
 
-ghost use Rattle.std.specs.Prelude.{◌≡◌};
+ghost use Rattle.std.specs.Prelude.{◌≡◌, IfOk};
 ghost use Rattle.clap.specs.Words.{kind_of};
 ghost use Rattle.tpm_args.specs.declared.stop.Stop.TheVariants.{Memory};
 
@@ -21,30 +21,20 @@ pub enum Stop {
 
 impl Stop {
     ghost use Rattle.tpm_args.specs.Stop.{StopsFor};
-    ghost use Rattle.tpm_args.specs.inner.Stop.{IsMemoryOr};
 
-    // A usage fault. Words stand in it as they came, so that it may have control characters, which a terminal obeys.
-    fn usage(alloc: Global, text: &String) -> Stop
-        ensures { IsMemoryOr (Unit {0}) result }
-    {
-        match without_controls(alloc, text.as_str()) {
-            Ok(text) => Stop::Usage(text),
-            Err(AllocError) => Stop::Memory,
-        }
-    }
-
-    /// What the parse of the words answered in place of matches.
-    pub(crate) fn of(alloc: Global, error: &Error) -> Stop
-        ensures { StopsFor (kind_of error.now) result }
+    /// What the parse of the words answered in place of matches. Words stand in a usage fault as they came, so that it
+    /// may have control characters, which a terminal obeys. An error is want of memory.
+    pub(crate) fn of(alloc: Global, error: &Error) -> Result<Stop, AllocError>
+        ensures { IfOk result (StopsFor (kind_of error.now)) }
     {
         if error.kind() == ErrorKind::OutOfMemory {
-            return Stop::Memory;
+            return Err(AllocError);
         }
-        match error.to_string(alloc) {
-            Ok(text) if error.use_stderr() => Stop::usage(alloc, &text),
-            Ok(text) => Stop::Help(text),
-            Err(_) => Stop::Memory,
+        let text = error.to_string(alloc)?;
+        if error.use_stderr() {
+            return Ok(Stop::Usage(without_controls(alloc, text.as_str())?));
         }
+        Ok(Stop::Help(text))
     }
 }
 

@@ -4,8 +4,8 @@ use crate::stop::Stop;
 use tpm_options::{CaptureTask, CheckTask, EventsTask, LogTask, PacketsTask};
 use tpm_types::{AuthValue, CommandCode};
 
-/// What the words of a subcommand ask for, if anything.
-pub(crate) type Asked<'a> = Result<Option<Task<'a>>, Stop>;
+/// What the words of a subcommand ask for.
+pub(crate) type Asked<'a> = Result<Task<'a>, Stop>;
 
 /// What the words ask for. The path `-` is standard input.
 #[derive(Drop)]

@@ -2,8 +2,8 @@
 #![tactic(auto)]
 
 mod program;
+mod subcommand;
 mod word;
 
-pub use program::{
-    build_words, check_words, events_words, explain_words, program_words, run_words, show_words,
-};
+pub use program::program_words;
+pub use subcommand::Subcommand;

@@ -8,16 +8,25 @@ ghost use Rattle.tpm_words.specs.inner.Word.{rule_of_word};
 use clap::{Arg, ArgAction, Command};
 use std::alloc::{AllocError, Global};
 
-/// A word that a subcommand takes: its name, its value's name if it is an option, and its help.
-pub(crate) enum Word<'a> {
-    /// A word that has to be there.
-    Required(&'a str, &'a str),
+/// A word that a subcommand takes.
+#[derive(Clone, Copy)]
+pub(crate) struct Word<'a> {
+    pub(crate) name: &'a str,
+    pub(crate) kind: Kind<'a>,
+    pub(crate) help: &'a str,
+}
+
+/// What kind of word it is.
+#[derive(Clone, Copy)]
+pub(crate) enum Kind<'a> {
+    /// One that has to be there.
+    Required,
     /// One that may be there.
-    Optional(&'a str, &'a str),
+    Optional,
     /// A flag, as `--fields`.
-    Flag(&'a str, &'a str),
-    /// An option with a value, as `--owner HEX`.
-    Option(&'a str, &'a str, &'a str),
+    Flag,
+    /// An option with a value of this name, as `--owner HEX`.
+    Valued(&'a str),
 }
 
 // What clap calls the word.
@@ -25,21 +34,12 @@ fn arg<'a>(alloc: Global, word: &Word<'a>) -> Arg<'a>
     ensures rule { rule_of result ≡ rule_of_word word.now }
     ensures local { result.global ≡ false }
 {
-    match word {
-        Word::Required(name, help) => Arg::new(alloc, name).required(true).help(help),
-        Word::Optional(name, help) => Arg::new(alloc, name).help(help),
-        Word::Flag(name, help) => {
-            Arg::new(alloc, name)
-                .long(name)
-                .action(ArgAction::SetTrue)
-                .help(help)
-        }
-        Word::Option(name, value, help) => {
-            Arg::new(alloc, name)
-                .long(name)
-                .value_name(value)
-                .help(help)
-        }
+    let arg = Arg::new(alloc, word.name).help(word.help);
+    match word.kind {
+        Kind::Required => arg.required(true),
+        Kind::Optional => arg,
+        Kind::Flag => arg.long(word.name).action(ArgAction::SetTrue),
+        Kind::Valued(value) => arg.long(word.name).value_name(value),
     }
 }
 

@@ -14,9 +14,12 @@ IsMemoryOr Reason (Help text) = ⊥
 IsMemoryOr Reason (Usage text) = Reason
 IsMemoryOr Reason Memory = Unit {0}
 
--- what the words of a subcommand of this name ask for, if anything, or the end for that reason
-abbrev pub IsAsked : Text → ArgMatches → Result (Option Task) Stop → Type 0
-IsAsked name words asked = MatchResult asked
-    (λ task. MatchOption task (AsksNothingWith name (first_value (found_of words)))
-    (AsksWith name (first_value (found_of words))))
+-- what the words of a subcommand of this name ask for, or the end where they ask for nothing
+abbrev pub IsAsked : Text → ArgMatches → Result Task Stop → Type 0
+IsAsked name words asked = MatchResult asked (AsksWith name (first_value (found_of words)))
     (IsMemoryOr (AsksNothingWith name (first_value (found_of words))))
+
+-- what words of a subcommand of this name ask for, if anything
+abbrev pub AsksIfAny : Text → ArgMatches → Option Task → Type 0
+AsksIfAny name words task = MatchOption task
+    (AsksNothingWith name (first_value (found_of words))) (AsksWith name (first_value (found_of words)))

@@ -9,23 +9,23 @@ use Rattle.tpm_args.proofs.given.Words.task.Goals as goal
 
 pub returns-in-Ok-clause-ok : goal.returns-in-Ok-clause-ok
 returns-in-Ok-clause-ok c =
-    let met = met_is string_bytes _ _ _ _ _ c.in_ok-program.ensures.0 c.in-Ok.ensures.ok.2 c.as_slice.ensures.value c.self.view_is in
-    task_asked (subcommand_rows_of c.in-Ok.matches) (subcommand_of program_app c.args.self.now) c.asked_or_usage.result
-    met c.asked_or_usage.ensures
+    let met = met_is string_bytes _ _ _ _ _ c.in_ok-program.ensures.0 c.in-Ok.ensures.matches c.as_slice.ensures.value c.self.view_is in
+    task_asked (subcommand_rows_of c.in-Ok.matches) (subcommand_of program_app c.args.self.now) c.asked.result
+    met c.asked.ensures
 
 pub returns-in-Ok-clause-err : goal.returns-in-Ok-clause-err
 returns-in-Ok-clause-err c =
-    let met = met_is string_bytes _ _ _ _ _ c.in_ok-program.ensures.0 c.in-Ok.ensures.ok.2 c.as_slice.ensures.value c.self.view_is in
+    let met = met_is string_bytes _ _ _ _ _ c.in_ok-program.ensures.0 c.in-Ok.ensures.matches c.as_slice.ensures.value c.self.view_is in
     let faults = faults_are string_bytes _ _ _ _ c.in_ok-program.ensures.0 c.as_slice.ensures.value c.self.view_is in
     let none = sym faults ∙ c.in-Ok.ensures.kinds (ap is_simple_and_free c.in_ok-program.ensures.0 ∙ simple_and_free) in
-    task_refused (subcommand_rows_of c.in-Ok.matches) c.args.self.now c.asked_or_usage.result met none c.asked_or_usage.ensures
+    task_refused (subcommand_rows_of c.in-Ok.matches) c.args.self.now c.asked.result met none c.asked.ensures
 
-pub returns-clause-err : goal.returns-clause-err
-returns-clause-err c =
+pub returns-in_ok-of-in-Err-clause-err : goal.returns-in_ok-of-in-Err-clause-err
+returns-in_ok-of-in-Err-clause-err c =
     let words = ap (map string_bytes) c.as_slice.ensures.value ∙ c.self.view_is in
     let faults = faults_are string_bytes _ _ _ _ c.in_ok-program.ensures.0 c.as_slice.ensures.value c.self.view_is in
-    stops c.args.self.now _ c.of.result
+    stops c.args.self.now _ c.in_ok-of-in-Err.field-0
     (λ taken. c.in-Err.ensures.passes (ap (λ (a : App). takes a (map string_bytes c.as_slice.result.now))
     c.in_ok-program.ensures.0 ∙ ap (takes program_app) words ∙ taken))
     (subst (λ (kinds : Kinds). HasKind kinds c.in-Err.error) faults
-    (c.in-Err.ensures.kinds (ap is_simple_and_free c.in_ok-program.ensures.0 ∙ simple_and_free))) c.of.ensures
+    (c.in-Err.ensures.kinds (ap is_simple_and_free c.in_ok-program.ensures.0 ∙ simple_and_free))) c.in_ok-of-in-Err.ensures

@@ -2,13 +2,13 @@ use Rattle.std.proofs.Common.{rules, ◌≡◌, codes, option_map}
 use Rattle.std.proofs.lemmas.Result.{err_from_is_err_and}
 use Rattle.clap.specs.Words.{first_value, found_of}
 use Rattle.tpm_args.proofs.Found.{memory_or, no_registers, not_listed}
-use Rattle.tpm_args.proofs.given.events_task.Goals as goal
+use Rattle.tpm_args.proofs.events.events_task.Goals as goal
 
 pub returns-in_err-registers : goal.returns-in_err-registers
 returns-in_err-registers c =
     let value = first_value (found_of c.args.words.now) in
     let given : option_map (λ t. t.now) c.get_str-2.result ≡ value (codes "register") = search rules in
-    let p = err_from_is_err_and c.from_residual.result c.from_residual.ensures.1 in
+    let p = err_from_is_err_and c.from_residual-in_err-registers.result c.from_residual-in_err-registers.ensures.1 in
     rw (p.1, p.2) (memory_or c.in_err-registers.field-0.0 (no_registers value _ given) c.in_err-registers.ensures)
 
 pub returns-in_err-options : goal.returns-in_err-options
