@@ -59,7 +59,7 @@ kind_names =
     ∷ codes "BadLocality" ∷ codes "LateLocality" ∷ codes "Device"
     ∷ codes "NotMeasured" ∷ codes "OtherType" ∷ codes "NoVariable" ∷ codes "Twice" ∷ codes "OtherValue"
     ∷ codes "Debugger" ∷ codes "BadSeparator" ∷ codes "NoSeparator" ∷ codes "Late" ∷ codes "NoKey"
-    ∷ codes "NoAuthority" ∷ codes "ListSize" ∷ codes "HeaderSize" ∷ codes "SignatureSize" ∷ []
+    ∷ codes "NoAuthority" ∷ codes "NoSecureBoot" ∷ codes "ListSize" ∷ codes "HeaderSize" ∷ codes "SignatureSize" ∷ []
 
 -- the first of these names that is the word, in any letter case
 unfoldable pub name_among : List (List ℕ) → (word : List ℕ) → Option (List ℕ)

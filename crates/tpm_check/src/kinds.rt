@@ -24,7 +24,7 @@ use tpm_output::text::Pushed;
 use tpm_secure_boot::SecureBootFaultKind;
 
 /// The names of all kinds, each once.
-const KIND_NAMES: [&str; 26] = [
+const KIND_NAMES: [&str; 27] = [
     "Truncated",
     "TooLong",
     "NotCryptoAgile",
@@ -48,6 +48,7 @@ const KIND_NAMES: [&str; 26] = [
     "Late",
     "NoKey",
     "NoAuthority",
+    "NoSecureBoot",
     "ListSize",
     "HeaderSize",
     "SignatureSize",
