@@ -2,8 +2,9 @@
 use Rattle.std.proofs.Common.{◌≡◌, ◌<◌, ◌≤◌, ◌+◌, ℕ, zero, suc, Bool, true, false, eqb, eq-eqb, List, [], ◌∷◌, ◌++◌, length, map}
 use Rattle.std.proofs.Common.{Option, Some, None, Ok, Err, refl, sym, ap, subst, ◌∙◌, arith, inl, inr}
 use Rattle.std.proofs.lemmas.Bool.{and_parts, eqb-true}
+use Rattle.std.proofs.lemmas.List.{nil_from_length}
 use Rattle.std.proofs.lemmas.Slice.Eq.{bytes_eq-Decides}
-use Rattle.std.specs.Prelude.{◌&&◌, not, find, option_map, unwrap_or, filter, if◌then◌else◌, nat_lt}
+use Rattle.std.specs.Prelude.{◌&&◌, not, codes, find, option_map, unwrap_or, filter, if◌then◌else◌, nat_lt, ◌==◌}
 use Rattle.std.specs.Option.{option_or}
 use Rattle.std.specs.Str.{bytes_eq}
 use Rattle.tpm_wire.specs.Path.{Spells}
@@ -36,15 +37,14 @@ use Rattle.tpm_output.specs.declared.status.Status.{Status}
 use Rattle.tpm_output.specs.InputLines.{most_bytes}
 use Rattle.tpm_output.specs.Status.{both}
 use Rattle.tpm_lists.specs.AllowLines.{AllowRead, allowed_in}
-use Rattle.tpm_check.specs.AllowTold.{first_lacking, first_lacking_of, is_lacking, on_lacking, on_unknown, status_of_unknown}
-use Rattle.tpm_check.specs.AllowedBoot.{OnLong, SaysBehind, SaysBeside, SaysOfList, SaysOfRead, VouchedLog, on_boot, on_digests}
+use Rattle.tpm_check.specs.AllowTold.{first_lacking, first_lacking_of, is_lacking, on_lacking, on_unknown}
+use Rattle.tpm_check.specs.AllowedBoot.{SaysBeside, VouchedLog, boot_if, on_boot, on_digests, on_list, on_read, on_selected}
 use Rattle.tpm_check.specs.AllowedLogs.{AllowedByQuote, AllowedThere, ListedLog}
 use Rattle.tpm_check.specs.Check.{hash_of}
 use Rattle.tpm_check.specs.CheckAttest.{ChecksAttest, OnDone, Says, Selects, behind, covering, given, is_done, judged, selected}
-use Rattle.tpm_check.specs.Compare.{Beside, Verdict, beside, printed, status_if}
+use Rattle.tpm_check.specs.Compare.{Beside, Verdict, beside, fault_told, printed, refused, status_if}
 use Rattle.tpm_lists.specs.Extensions.{Extension, extension, extensions_from, extensions_in}
 use Rattle.tpm_check.specs.QuotedBoot.{ChecksBoot}
-use Rattle.tpm_check.specs.SecureBootLines.{ended}
 use Rattle.tpm_lists.proofs.Below.{list_below, named_below}
 
 -- ---- statuses
@@ -115,7 +115,7 @@ accepted b o signed v (inl (a, spelled, says)) done =
       required = all_selected o.any_selection a.quote.selections o.required behind_nonce.0;
       is = found.2;
     }
-accepted b o signed v (inr (refusal, fault, refused, text)) done = absurd (not_done (sym done ∙ refused))
+accepted b o signed v (inr (refusal, fault, said)) done = absurd (not_done (sym done ∙ said.0))
 
 -- The bytes spell one quote.
 one_selection : (signed : List ℕ) (a : Attest) (selections : List Selection) → Spells attest a signed → Selects signed selections
@@ -237,40 +237,43 @@ record IsHeld (q : VouchedLog) (allow : List ℕ) : Type 0 where
   none_lacking : first_lacking list q.selections all_algs ≡ None
   none_found : extensions_in (Some list) q.log.size (map shown q.log.records) ≡ []
 
-none_of_status : (found : List Extension) → status_of_unknown found ≡ Done → found ≡ []
-none_of_status [] done = refl
-none_of_status (x ∷ found) done = absurd (not_done (sym done))
+none_of_status : (found : List Extension) → status_if (length found == 0) ≡ Done → found ≡ []
+none_of_status found done = nil_from_length found (eqb-true (length found) 0 (done_if (length found == 0) done))
+
+named_first : (list : List AllowedDigest) → (length list == 0) ≡ false → (bank : Alg) × (register : ℕ) × (names list bank register ≡ true)
+named_first [] some = absurd (let z : ⊥ = cc in z)
+named_first (a ∷ list) some = (a.digest.0, a.register, names_first a list)
 
 held : (q : VouchedLog) (allow : List ℕ) (list : List AllowedDigest) → allowed_in allow ≡ Ok list → (on_digests q list).status ≡ Done → IsHeld q allow
-held q allow [] read done = absurd (not_done (sym done))
-held q allow (a ∷ list) read done = go (first_lacking (a ∷ list) q.selections all_algs) refl done
+held q allow list read done = go (length list == 0) refl (first_lacking list q.selections all_algs) refl done
   where
     found : List Extension
-    found = extensions_in (Some (a ∷ list)) q.log.size (map shown q.log.records)
+    found = extensions_in (Some list) q.log.size (map shown q.log.records)
 
-    go : (o : Option NotSelected) → first_lacking (a ∷ list) q.selections all_algs ≡ o
-        → (on_lacking q.form o (on_unknown q.form (a ∷ list) found)).status ≡ Done → IsHeld q allow
-    go (Some r) is done = absurd (not_done (sym done))
-    go None is done = record {
-      list = a ∷ list;
+    go : (none : Bool) → (length list == 0) ≡ none → (o : Option NotSelected) → first_lacking list q.selections all_algs ≡ o
+        → (if none then refused (fault_told q.options.form (codes "no register"))
+        else on_lacking q.options.form o (on_unknown q.options.form list found)).status ≡ Done → IsHeld q allow
+    go true none o is done = absurd (not_done (sym done))
+    go false some (Some r) is done = absurd (not_done (sym done))
+    go false some None is done = record {
+      list = list;
       read = read;
-      some = (a.digest.0, a.register, names_first a list);
+      some = named_first list some;
       none_lacking = is;
       none_found = none_of_status found done;
     }
 
-held_of_read : (q : VouchedLog) (allow : List ℕ) (last : Verdict) (read : AllowRead) → allowed_in allow ≡ read → SaysOfRead q read last
-    → last.status ≡ Done → IsHeld q allow
-held_of_read q allow last (Ok list) is says done = held q allow list is (sym says.0 ∙ done)
-held_of_read q allow last (Err number) is says done = absurd (not_done (sym done ∙ says.0))
+held_of_read : (q : VouchedLog) (allow : List ℕ) (read : AllowRead) → allowed_in allow ≡ read → (on_read q read).status ≡ Done → IsHeld q allow
+held_of_read q allow (Ok list) is done = held q allow list is done
+held_of_read q allow (Err number) is done = absurd (not_done (sym done))
 
-short : (b : Bool) (P Q : Type 0) → (P → ⊥) → OnLong b P Q → Q
-short true P Q wrong says = absurd (wrong says)
-short false P Q wrong says = says
-
-held_of_list : (q : VouchedLog) (allow : List ℕ) (last : Verdict) → SaysOfList q allow last → last.status ≡ Done → IsHeld q allow
-held_of_list q allow last says done =
-    held_of_read q allow last (allowed_in allow) refl (short (nat_lt most_bytes (length allow)) _ _ (λ long. not_done (sym done ∙ long.0)) says) done
+held_of_list : (q : VouchedLog) (allow : List ℕ) → (on_list q allow).status ≡ Done → IsHeld q allow
+held_of_list q allow done = go (nat_lt most_bytes (length allow)) done
+  where
+    go : (long : Bool) → (if long then refused (fault_told q.options.form (codes "list too long")) else on_read q (allowed_in allow)).status ≡ Done
+        → IsHeld q allow
+    go true done = absurd (not_done (sym done))
+    go false done = held_of_read q allow (allowed_in allow) refl done
 
 -- ---- a log beside both
 
@@ -290,7 +293,7 @@ module _ (o : CheckOptions) (signed allow bytes : List ℕ) (l : ParsedLog) (fou
   }
 
   module _ (a : Accepted o (value_in found.banks) signed) (selections : List Selection) (selects : Selects signed selections)
-      (h : IsHeld (record { form = o.form; selections = selections; log = l }) allow) where
+      (h : IsHeld (record { options = o; selections = selections; log = l }) allow) where
     abbrev listed : ListedLog
     listed = record { list = h.list; signed = a.quote; hash = a.hash; log = quoted_log a }
 
@@ -321,20 +324,23 @@ module _ (o : CheckOptions) (signed allow bytes : List ℕ) (l : ParsedLog) (fou
 
   all_allowed_done : (text : List ℕ) → SaysBeside o (record { attest = signed; allow = Some allow }) found l (printed Done text)
       → AllowedByQuote o signed allow bytes
-  all_allowed_done text (first, checks, says) = go first.status refl says
+  all_allowed_done text (first, last, checks, followed, says) = go first.status refl followed
     where
+      beside_list : List Selection → VouchedLog
+      beside_list selections = record { options = o; selections = selections; log = l }
+
       go : (s : Status) → first.status ≡ s
-          → OnDone s ((second : Verdict) × SaysBehind o (record { attest = signed; allow = Some allow }) l second
-          × Says (ended o.form (behind first second)) Done text) (Says (ended o.form first) Done text)
+          → OnDone s ((selections : List Selection) × Selects signed selections
+          × Says (behind first (on_selected (Some allow) (beside_list selections))) last.status last.text) (Says first last.status last.text)
           → AllowedByQuote o signed allow bytes
-      go Refused is ends = absurd (not_done (ends.0 ∙ is))
-      go Done is (second, (selections, selects, (last, list, behind_boot)), ends) =
-          let second_done = (both_done first.status second.status (sym ends.0)).1 in
-          let last_done = (both_done (on_boot o.secure_boot o selections l).status last.status (sym behind_boot.0 ∙ second_done)).1 in
-          all_are (accepted (beside o.form (value_in found.banks)) o signed first checks is) selections selects
-          (held_of_list (record { form = o.form; selections = selections; log = l }) allow last list last_done)
+      go Refused is ends = absurd (not_done (says.0 ∙ ends.0 ∙ is))
+      go Done is (selections, selects, ends) =
+          let q = beside_list selections in
+          let behind_done = (both_done first.status (on_selected (Some allow) q).status (sym (says.0 ∙ ends.0))).1 in
+          let list_done = (both_done (boot_if o.secure_boot (on_boot q)).status (on_list q allow).status behind_done).1 in
+          all_are (accepted (beside o.form (value_in found.banks)) o signed first checks is) selections selects (held_of_list q allow list_done)
 
 pub allowed_done : (o : CheckOptions) (signed allow bytes text : List ℕ)
     → ChecksBoot (record { options = o; attest = Some signed; allow = Some allow }) bytes Done text → AllowedByQuote o signed allow bytes
-allowed_done o signed allow bytes text (inl (l, found, parses, replays, says)) = all_allowed_done o signed allow bytes l found parses replays text says
-allowed_done o signed allow bytes text (inr (fault, of, refused, told)) = absurd (not_done refused)
+allowed_done o signed allow bytes text (inl (l, parses, (found, replays, says))) = all_allowed_done o signed allow bytes l found parses replays text says
+allowed_done o signed allow bytes text (inr (fault, is, told)) = absurd (not_done told.0)

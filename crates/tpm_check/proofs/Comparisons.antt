@@ -1,19 +1,19 @@
 -- Lists of registers whose lines are compared one after the other.
 use Rattle.std.proofs.Common.{◌≡◌, ℕ, Bool, true, ◌+◌, ◌<◌, ◌≤◌, false, List, [], ◌∷◌, ◌++◌, length, take, Option, Some, None}
-use Rattle.std.proofs.Common.{◌||◌, Bor, option_map, refl, sym, ap, subst, ◌∙◌, inl, inr, arith, length-append, length-take-le}
+use Rattle.std.proofs.Common.{Bor, append_assoc, option_map, refl, sym, ap, subst, ◌∙◌, inl, inr, arith, length-append, length-take-le}
 use Rattle.std.proofs.lemmas.List.{take_all}
 use Rattle.std.proofs.lemmas.Bool.{cases_lt, lt-ltb}
-use Rattle.std.specs.Prelude.{filter, IfSome, ◌≢◌}
-use Rattle.std.specs.List.{AllByRecursion, list_any}
+use Rattle.std.specs.Prelude.{filter, ◌≢◌}
+use Rattle.std.specs.List.{AllByRecursion}
 use Rattle.std.specs.Io.KnownBytes.{Appends}
 use Rattle.tpm_check.specs.declared.beside.Beside.{Beside as InCode}
 use Rattle.tpm_check.specs.declared.compared.Comparing.{Comparing}
 use Rattle.tpm_lists.specs.declared.list_lines.Heading.TheVariants.{NoBank}
 use Rattle.tpm_lists.specs.declared.list_lines.Heading.{Heading}
 use Rattle.tpm_lists.specs.ListLines.{ListLine, States, Heads, Passes, Wrong, heading_behind, line_under, lines_under, most_line}
-use Rattle.tpm_check.specs.Compare.{Beside, Comparison, comparison, comparison_from, comparison_of, is_statement, is_value, states_any, status_if}
+use Rattle.tpm_check.specs.Compare.{Beside, Comparison, any_behind, comparison, comparison_from, comparison_of, is_value, no_register_text, status_if}
 use Rattle.tpm_check.specs.Compare.{IsStated, ReadsList, ReadsTooMuchList}
-use Rattle.tpm_check.specs.inner.Comparing.{Compares, line_behind, line_text, list_line, stated_behind, stated_text}
+use Rattle.tpm_check.specs.inner.Comparing.{Compares, finished, line_behind, line_text, list_line, stated_behind, stated_text}
 use Rattle.tpm_check.specs.inner.Told.{told}
 use Rattle.tpm_output.specs.declared.status.Status.TheVariants.{Done, Refused}
 use Rattle.tpm_output.specs.declared.status.Status.{Status}
@@ -24,10 +24,6 @@ use Rattle.tpm_output.specs.Status.{both}
 use Rattle.tpm_output.proofs.LineReading.{stops_whatever}
 
 -- ---- statuses
-
-both_done : (status : Status) → both status Done ≡ status
-both_done Done = refl
-both_done Refused = refl
 
 both_twice : (status next : Status) (o : Option Status) → option_map (both status) (option_map (both next) o) ≡ option_map (both (both status next)) o
 both_twice status next None = refl
@@ -109,24 +105,21 @@ behind text c = record { text = text ++ c.text; status = c.status }
 abbrev with_status : Status → Comparison → Comparison
 with_status status c = record { text = c.text; status = option_map (both status) c.status }
 
--- what was printed, and the status
-abbrev pub told_of : Option Comparing → (text : List ℕ) → Comparison
-told_of left text = record { text = text; status = option_map (λ (c : Comparing). c.status) left }
-
 -- what is printed of lines from here, of which the first has this number
 abbrev from_here : ℕ → Comparing → List (List ℕ) → Comparison
-from_here n c lines = with_status c.status (comparison_from (told c.found.now) n (lines_under c.heading lines))
+from_here n c lines = with_status c.status (comparison_from (told c.found.now) n c.any (lines_under c.heading lines))
 
 -- of a line that says this, and those behind it
 abbrev from_line : ℕ → Comparing → ListLine → List (List ℕ) → Comparison
 from_line n c l others =
-    with_status c.status (comparison_of (told c.found.now) n l (comparison_from (told c.found.now) (n + 1) (lines_under (heading_behind c.heading l) others)))
+    with_status c.status (comparison_of (told c.found.now) n l
+    (comparison_from (told c.found.now) (n + 1) (any_behind c.any l) (lines_under (heading_behind c.heading l) others)))
 
 goes_line : (n : ℕ) (c mid : Comparing) (l : ListLine) (one : List ℕ) (others : List (List ℕ)) → Some mid ≡ line_behind c l
     → one ≡ line_text (told c.found.now) n l → behind one (from_here (n + 1) mid others) ≡ from_line n c l others
 goes_line n c mid (States s) one others is said =
     let b = told c.found.now in
-    let rest = comparison_from b (n + 1) (lines_under c.heading others) in
+    let rest = comparison_from b (n + 1) true (lines_under c.heading others) in
     ap (λ (text : List ℕ). behind text (from_here (n + 1) mid others)) said
     ∙ ap (λ (k : Comparing). behind (stated_text b s) (from_here (n + 1) k others)) (same_some mid (stated_behind c s) is)
     ∙ ap (λ (o : Option Status). record { text = stated_text b s ++ rest.text; status = o })
@@ -139,27 +132,32 @@ goes_line n c mid Passes one others is said =
     ∙ ap (λ (k : Comparing). behind [] (from_here (n + 1) k others)) (same_some mid c is)
 goes_line n c mid Wrong one others is said = absurd (not_none mid is)
 
+-- a line's text, and the lines behind it
+finished_behind : (left : Option Comparing) (one text : List ℕ) → finished left (one ++ text) ≡ behind one (finished left text)
+finished_behind None one text = refl
+finished_behind (Some c) one text =
+    ap (λ (all : List ℕ). record { text = all; status = Some (both c.status (status_if c.any)) })
+    (append_assoc one text (no_register_text c.found.now.form c.any))
+
 stops_line : (n : ℕ) (c : Comparing) (l : ListLine) (text : List ℕ) (others : List (List ℕ)) → None ≡ line_behind c l
-    → text ≡ line_text (told c.found.now) n l → told_of None text ≡ from_line n c l others
+    → text ≡ line_text (told c.found.now) n l → finished None text ≡ from_line n c l others
 stops_line n c l text others is said =
     let wrong : l ≡ Wrong = wrong_line c l is in
-    ap (told_of None) (said ∙ ap (line_text (told c.found.now) n) wrong) ∙ ap (λ (k : ListLine). from_line n c k others) (sym wrong)
+    ap (finished None) (said ∙ ap (line_text (told c.found.now) n) wrong) ∙ ap (λ (k : ListLine). from_line n c k others) (sym wrong)
 
 outcome_from : (start : LinesStart Comparing) (lines : List (List ℕ)) (end : LinesEnd Comparing) → TakesFrom Compares start lines end
-    → told_of end.left end.text ≡ from_here start.number start.sink lines
-outcome_from start [] end f =
-    ap (λ (o : Option Comparing). told_of o end.text) f.0
-    ∙ ap (told_of (Some start.sink)) f.1
-    ∙ ap (λ (status : Status). record { text = []; status = Some status }) (sym (both_done start.sink.status))
+    → finished end.left end.text ≡ from_here start.number start.sink lines
+outcome_from start [] end f = ap (λ (o : Option Comparing). finished o end.text) f.0 ∙ ap (finished (Some start.sink)) f.1
 outcome_from start (line ∷ others) end (inl f) =
     let n = start.number in
     let c = start.sink in
-    ap (told_of end.left) f.5
+    ap (finished end.left) f.5
+    ∙ finished_behind end.left f.1 f.2
     ∙ ap (behind f.1) (outcome_from (record { number = n + 1; sink = f.0 }) others (record { left = end.left; text = f.2 }) f.4)
     ∙ goes_line n c f.0 (line_under c.heading line) f.1 others f.3.0 f.3.1
 outcome_from start (line ∷ others) end (inr f) =
     let c = start.sink in
-    ap (λ (o : Option Comparing). told_of o end.text) f.0 ∙ stops_line start.number c (line_under c.heading line) end.text others f.1.0 f.1.1
+    ap (λ (o : Option Comparing). finished o end.text) f.0 ∙ stops_line start.number c (line_under c.heading line) end.text others f.1.0 f.1.1
 
 abbrev AreRight : List ListLine → Type 0
 AreRight lines = AllByRecursion (λ (line : ListLine). line ≢ Wrong) lines
@@ -176,40 +174,6 @@ right_lines start (line ∷ others) new text (inl f) =
     )
 right_lines start (line ∷ others) new text (inr f) = absurd (not_none new f.0)
 
--- ---- a register that is stated
-
-or-true : (b : Bool) → (b || true) ≡ true
-or-true true = refl
-or-true false = refl
-
-or-false : (b : Bool) → (b || false) ≡ b
-or-false true = refl
-or-false false = refl
-
-or-assoc : (a b c : Bool) → ((a || b) || c) ≡ (a || (b || c))
-or-assoc true b c = refl
-or-assoc false b c = refl
-
-any_line : (c mid : Comparing) (l : ListLine) → Some mid ≡ line_behind c l → mid.any ≡ (c.any || is_statement l)
-any_line c mid (States s) is = ap (λ (k : Comparing). k.any) (same_some mid (stated_behind c s) is) ∙ sym (or-true c.any)
-any_line c mid (Heads heading) is = ap (λ (k : Comparing). k.any) (same_some mid (record c { heading = heading }) is) ∙ sym (or-false c.any)
-any_line c mid Passes is = ap (λ (k : Comparing). k.any) (same_some mid c is) ∙ sym (or-false c.any)
-any_line c mid Wrong is = absurd (not_none mid is)
-
-any_from : (start : LinesStart Comparing) (lines : List (List ℕ)) (new : Comparing) (text : List ℕ)
-    → TakesFrom Compares start lines (record { left = Some new; text = text })
-    → new.any ≡ (start.sink.any || list_any is_statement (lines_under start.sink.heading lines))
-any_from start [] new text f = ap (λ (k : Comparing). k.any) (same_some new start.sink f.0) ∙ sym (or-false start.sink.any)
-any_from start (line ∷ others) new text (inl f) =
-    let c = start.sink in
-    let l = line_under c.heading line in
-    let rest = λ (heading : Heading). list_any is_statement (lines_under heading others) in
-    any_from (record { number = start.number + 1; sink = f.0 }) others new f.2 f.4
-    ∙ ap (λ (heading : Heading). f.0.any || rest heading) (heading_is c f.0 l f.3.0)
-    ∙ ap (λ (b : Bool). b || rest (heading_behind c.heading l)) (any_line c f.0 l f.3.0)
-    ∙ or-assoc c.any (is_statement l) (rest (heading_behind c.heading l))
-any_from start (line ∷ others) new text (inr f) = absurd (not_none new f.0)
-
 -- ---- the input
 
 -- where no line was compared
@@ -218,27 +182,17 @@ first_of found = record { found = found; heading = NoBank; status = Done; any = 
 
 abbrev pub Concludes : Beside → (old new a c : Option (List ℕ)) → Option Comparing → Type 0
 Concludes b old new a c left =
-    (bytes : List ℕ) × ReadsList b old new bytes
-    × (option_map (λ (k : Comparing). k.status) left ≡ (comparison b bytes).status)
-    × IfSome left (λ (k : Comparing). k.any ≡ states_any bytes)
-    × Appends a c (comparison b bytes).text
+    (bytes text : List ℕ) × ReadsList b old new bytes × (finished left text ≡ comparison b bytes) × Appends a c text
 
 module _ (found : Bor InCode) where
-  -- what was printed of a whole list, and the status
+  -- what is printed of a whole list
   outcome : (bytes : List ℕ) (left : Option Comparing) (text : List ℕ)
       → TakesAll Compares (record { first = first_of found; bytes = bytes; left = left; text = text })
-      → told_of left text ≡ comparison (told found.now) bytes
+      → finished left text ≡ comparison (told found.now) bytes
   outcome bytes left text f =
       let all = comparison (told found.now) bytes in
       outcome_from (record { number = 1; sink = first_of found }) (lines_of bytes) (record { left = left; text = text }) f
       ∙ ap (λ (o : Option Status). record { text = all.text; status = o }) (both_none all.status)
-
-  -- whether a line of it states a register
-  any_of : (bytes : List ℕ) (left : Option Comparing) (text : List ℕ)
-      → TakesAll Compares (record { first = first_of found; bytes = bytes; left = left; text = text })
-      → IfSome left (λ (k : Comparing). k.any ≡ states_any bytes)
-  any_of bytes None text f = tt
-  any_of bytes (Some k) text f = any_from (record { number = 1; sink = first_of found }) (lines_of bytes) k text f
 
   -- no line is wrong of what was taken
   stated : (bytes : List ℕ) → GoesOn list_line Compares (first_of found) bytes → IsStated bytes
@@ -257,7 +211,7 @@ module _ (found : Bor InCode) where
 
   -- where it stops, whatever comes
   stops_further : (bytes : List ℕ) (at : StopsAt list_line Compares (first_of found) bytes) (more : List ℕ)
-      → told_of None (at.text ++ at.last) ≡ comparison (told found.now) (bytes ++ more)
+      → finished None (at.text ++ at.last) ≡ comparison (told found.now) (bytes ++ more)
   stops_further bytes at more =
       outcome (bytes ++ more) None (at.text ++ at.last) (stops_whatever list_line Compares (first_of found) bytes at more)
 
@@ -271,9 +225,9 @@ module _ (found : Bor InCode) where
     whole = elim whole.1 [
       | inl end ↦ inl end
       | inr stops ↦
-          let all : told_of None (stops.at.text ++ stops.at.last) ≡ comparison (told found.now) bytes =
-          ap (λ (o : Option Comparing). told_of o (stops.at.text ++ stops.at.last)) (sym stops.none)
-          ∙ ap (told_of left) (sym stops.text)
+          let all : finished None (stops.at.text ++ stops.at.last) ≡ comparison (told found.now) bytes =
+          ap (λ (o : Option Comparing). finished o (stops.at.text ++ stops.at.last)) (sym stops.none)
+          ∙ ap (finished left) (sym stops.text)
           ∙ outcome bytes left text whole.0 in
           inr (
             ap (λ (c : Comparison). c.status) (sym all),
@@ -288,10 +242,4 @@ module _ (found : Bor InCode) where
       → IsWhole list_line Compares new (record { first = first_of found; bytes = bytes; left = left; text = text })
       → Appends a c text → Concludes (told found.now) old new a c left
   answers old new a c bytes text left f whole added =
-      let all : told_of left text ≡ comparison (told found.now) bytes = outcome bytes left text whole.0 in (
-        bytes,
-        reads_list old new bytes text left f whole,
-        ap (λ (d : Comparison). d.status) all,
-        any_of bytes left text whole.0,
-        subst (λ (d : Comparison). Appends a c d.text) all added,
-      )
+      (bytes, text, reads_list old new bytes text left f whole, outcome bytes left text whole.0, added)

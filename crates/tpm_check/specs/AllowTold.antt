@@ -1,5 +1,5 @@
 -- What is printed of a log beside a list of allowed digests (this profile).
-use Rattle.std.specs.Prelude.{ℕ, zero, suc, Bool, true, false, not, List, [], ◌∷◌, ◌++◌, codes, find, flat_map, map}
+use Rattle.std.specs.Prelude.{ℕ, Bool, true, false, not, List, [], ◌∷◌, codes, find, flat_map, length, map, ◌==◌}
 use Rattle.std.specs.Prelude.{◌&&◌, Option, Some, None, option_map, if◌then◌else◌}
 use Rattle.std.specs.List.{list_any}
 use Rattle.std.specs.Option.{option_or}
@@ -12,15 +12,14 @@ use Rattle.tpm_quote.specs.Attests.{is_among, register_of}
 use Rattle.tpm_vouched.specs.declared.allowed.AllowedDigest.{AllowedDigest}
 use Rattle.tpm_vouched.specs.Allowed.{names}
 use Rattle.tpm_output.specs.declared.form.Form.{Form}
-use Rattle.tpm_output.specs.declared.status.Status.TheVariants.{Done, Refused}
-use Rattle.tpm_output.specs.declared.status.Status.{Status}
 use Rattle.tpm_output.specs.Form.{told_by}
 use Rattle.tpm_output.specs.Marks.{Bytes, Mark, Number, Says as SaysOf, Truth, Word}
 use Rattle.tpm_output.specs.Telling.{says}
 use Rattle.tpm_event_marks.specs.Names.{type_value}
 use Rattle.tpm_check.specs.CheckAttest.{marks_of_lacks}
 use Rattle.tpm_check.specs.CheckJson.{rendered}
-use Rattle.tpm_check.specs.Compare.{Verdict, fault_told}
+use Rattle.tpm_check.specs.Compare.{Verdict, fault_told, printed, refused, status_if}
+use Rattle.tpm_check.specs.FirstOf.{first_of}
 use Rattle.tpm_lists.specs.Extensions.{Extension, is_of}
 
 -- ---- a digest that isn't on the list
@@ -61,43 +60,19 @@ abbrev pub allowed_text : Form → Alg → (register : ℕ) → List ℕ
 allowed_text form bank register = told_by form (words_of_allowed bank register) (marks_of_allowed bank register)
 
 -- a register that the list names, by all that aren't on it
-abbrev pub named_told : Form → List Extension → Alg → (register : ℕ) → List ℕ
-named_told form found bank register =
-    if list_any (is_of bank register) found then flat_map (unknown_if form bank register) found
-    else allowed_text form bank register
-
 abbrev pub register_told : Form → List AllowedDigest → List Extension → Alg → (register : ℕ) → List ℕ
 register_told form list found bank register =
-    if names list bank register then named_told form found bank register else []
+    if not (names list bank register) then []
+    else if list_any (is_of bank register) found then flat_map (unknown_if form bank register) found
+    else allowed_text form bank register
 
--- those of a bank's first registers, so many of them, which the list names
-abbrev pub bank_told : Form → List AllowedDigest → List Extension → Alg → ℕ → List ℕ
-bank_told form list found bank zero = []
-bank_told form list found bank (suc n) =
-    bank_told form list found bank n ++ register_told form list found bank n
+unfoldable pub bank_told : Form → List AllowedDigest → List Extension → Alg → List ℕ
+bank_told form list found bank = first_of (register_told form list found bank) 24
 
 abbrev pub banks_told : Form → List AllowedDigest → List Extension → List ℕ
-banks_told form list found = flat_map (λ bank. bank_told form list found bank 24) all_algs
+banks_told form list found = flat_map (bank_told form list found) all_algs
 
 -- ---- a list
-
--- All was done where there is none.
-abbrev pub status_of_unknown : List Extension → Status
-status_of_unknown [] = Done
-status_of_unknown (x ∷ xs) = Refused
-
--- by those that aren't on it
-abbrev pub on_unknown : Form → List AllowedDigest → List Extension → Verdict
-on_unknown form list found = record { status = status_of_unknown found; text = banks_told form list found }
-
--- a register that the list names and that isn't selected
-abbrev pub lacking_text : Form → NotSelected → List ℕ
-lacking_text form r = rendered form (marks_of_lacks form r)
-
--- the first of those, or else what is said of the records
-abbrev pub on_lacking : Form → Option NotSelected → Verdict → Verdict
-on_lacking form (Some r) v = record { status = Refused; text = lacking_text form r }
-on_lacking form None v = v
 
 -- The list names the register of the bank, and it isn't selected.
 abbrev pub is_lacking : List AllowedDigest → List Selection → Alg → (register : ℕ) → Bool
@@ -112,7 +87,17 @@ first_lacking list quoted [] = None
 first_lacking list quoted (bank ∷ banks) =
     option_or (first_lacking_of list quoted bank) (first_lacking list quoted banks)
 
+-- by those that aren't on it: all was done where there is none
+abbrev pub on_unknown : Form → List AllowedDigest → List Extension → Verdict
+on_unknown form list found = printed (status_if (length found == 0)) (banks_told form list found)
+
+-- a register that the list names and that isn't selected, or else that
+abbrev pub on_lacking : Form → Option NotSelected → Verdict → Verdict
+on_lacking form (Some r) v = refused (rendered form (marks_of_lacks form r))
+on_lacking form None v = v
+
 -- a list without a digest, and any other
-abbrev pub on_list : Form → List AllowedDigest → (lacking : Option NotSelected) → Verdict → Verdict
-on_list form [] lacking v = record { status = Refused; text = fault_told form (codes "no register") }
-on_list form (digest ∷ digests) lacking v = on_lacking form lacking v
+abbrev pub on_found : Form → List AllowedDigest → List Selection → List Extension → Verdict
+on_found form list quoted found =
+    if length list == 0 then refused (fault_told form (codes "no register"))
+    else on_lacking form (first_lacking list quoted all_algs) (on_unknown form list found)

@@ -1,103 +1,80 @@
 -- What is printed of a log beside a quote, and a list of allowed digests (this profile).
-use Rattle.std.specs.Prelude.{◌⊎◌, ℕ, Bool, true, false, nat_lt, List, [], length, map, codes, Ok, Err}
-use Rattle.std.specs.Prelude.{Option, Some, None}
+use Rattle.std.specs.Prelude.{ℕ, Bool, true, false, nat_lt, List, [], length, map, codes, Ok, Err}
+use Rattle.std.specs.Prelude.{Option, Some, None, if◌then◌else◌}
 use Rattle.tpm_types.specs.declared.tpms.Selection.{Selection}
-use Rattle.tpm_types.specs.Alg.{all_algs}
 use Rattle.tpm_pcr.specs.Registers.{Registers, value_in}
 use Rattle.tpm_log.specs.Changes.{AreAfter}
-use Rattle.tpm_log.specs.Events.{ParsedLog, Parses, shown}
+use Rattle.tpm_log.specs.Events.{ParsedLog, shown}
 use Rattle.tpm_log.specs.Replays.{Replays}
 use Rattle.tpm_vouched.specs.declared.allowed.AllowedDigest.{AllowedDigest}
 use Rattle.tpm_options.specs.declared.CheckOptions.{CheckOptions}
-use Rattle.tpm_output.specs.declared.form.Form.{Form}
-use Rattle.tpm_output.specs.declared.status.Status.TheVariants.{Done, Refused}
+use Rattle.tpm_output.specs.declared.status.Status.TheVariants.{Done}
 use Rattle.tpm_output.specs.declared.status.Status.{Status}
 use Rattle.tpm_output.specs.InputLines.{most_bytes}
 use Rattle.tpm_lists.specs.AllowLines.{AllowRead, allowed_in}
-use Rattle.tpm_check.specs.AllowTold.{first_lacking, on_list, on_unknown}
-use Rattle.tpm_check.specs.CheckAttest.{ChecksAttest, OnDone, Says, Selects, behind}
-use Rattle.tpm_check.specs.Compare.{Verdict, beside, fault_told, not_a_register_text, printed}
-use Rattle.tpm_lists.specs.Extensions.{Extension, extensions_in}
-use Rattle.tpm_check.specs.SecureBootLines.{TellsFault, ended, on_log, quoted_banks}
+use Rattle.tpm_lists.specs.Extensions.{extensions_in}
+use Rattle.tpm_check.specs.AllowTold.{on_found}
+use Rattle.tpm_check.specs.CheckAttest.{ChecksAttest, IsFollowed, Says, behind, ended}
+use Rattle.tpm_check.specs.Compare.{Verdict, beside, fault_told, not_a_register_text, printed, refused}
+use Rattle.tpm_check.specs.SecureBootLines.{TellsLog, on_log, quoted_banks}
 
--- ---- a list
+-- ---- behind a quote
 
--- what a list is held against: what a quote selects, and the log beside which it is the one that was asked for
+-- a log beside which a quote is the one that was asked for, and what the quote selects
 pub record VouchedLog : Type 0 where
-  pub form : Form
+  pub options : CheckOptions
   pub selections : List Selection
   pub log : ParsedLog
 
--- by the digests of the log that aren't on it
-abbrev pub on_found : Form → List AllowedDigest → List Selection → List Extension → Verdict
-on_found form list selections found =
-    on_list form list (first_lacking list selections all_algs) (on_unknown form list found)
-
+-- by the digests of the log that aren't on a list
 abbrev pub on_digests : VouchedLog → List AllowedDigest → Verdict
 on_digests q list =
-    on_found q.form list q.selections (extensions_in (Some list) q.log.size (map shown q.log.records))
+    on_found q.options.form list q.selections (extensions_in (Some list) q.log.size (map shown q.log.records))
 
-abbrev pub refused : List ℕ → Verdict
-refused text = record { status = Refused; text = text }
+-- of a list its digests, or else the first line that is wrong
+abbrev pub on_read : VouchedLog → AllowRead → Verdict
+on_read q (Ok digests) = on_digests q digests
+on_read q (Err number) = refused (not_a_register_text q.options.form number)
 
--- Of a list its digests, or else the first line that is wrong.
-abbrev pub SaysOfRead : VouchedLog → AllowRead → Verdict → Type 0
-SaysOfRead q (Ok digests) v = Says (on_digests q digests) v.status v.text
-SaysOfRead q (Err number) v = Says (refused (not_a_register_text q.form number)) v.status v.text
+abbrev pub on_list : VouchedLog → (bytes : List ℕ) → Verdict
+on_list q bytes =
+    if nat_lt most_bytes (length bytes) then refused (fault_told q.options.form (codes "list too long"))
+    else on_read q (allowed_in bytes)
 
--- The one holds of a list that is too long, and else the other.
-abbrev pub OnLong : (is_long : Bool) → Type 0 → Type 0 → Type 0
-OnLong true P Q = P
-OnLong false P Q = Q
+-- whether Secure Boot was on, in the banks whose register 7 is selected
+abbrev pub on_boot : VouchedLog → Verdict
+on_boot q = on_log q.options q.log.size (map shown q.log.records) (quoted_banks q.selections)
 
-abbrev pub SaysOfList : VouchedLog → List ℕ → Verdict → Type 0
-SaysOfList q bytes v =
-    OnLong (nat_lt most_bytes (length bytes))
-    (Says (refused (fault_told q.form (codes "list too long"))) v.status v.text)
-    (SaysOfRead q (allowed_in bytes) v)
-
--- ---- a log
-
--- whether Secure Boot was on, where that is asked for, in the banks whose register 7 is selected
+-- where that is asked for
 abbrev pub boot_if : (asked : Bool) → Verdict → Verdict
-boot_if false v = record { status = Done; text = [] }
+boot_if false v = printed Done []
 boot_if true v = v
 
-abbrev pub on_boot : (asked : Bool) → CheckOptions → List Selection → ParsedLog → Verdict
-on_boot asked o selections l = boot_if asked (on_log o l.size (map shown l.records) (quoted_banks selections))
-
 -- Beside a list that comes first where it is asked for, and then what is said beside the list.
-abbrev pub SaysOfSelected : CheckOptions → (allow : Option (List ℕ)) → List Selection → ParsedLog → Verdict → Type 0
-SaysOfSelected o None selections l v = Says (on_boot true o selections l) v.status v.text
-SaysOfSelected o (Some allow) selections l v =
-    (last : Verdict)
-    × SaysOfList (record { form = o.form; selections = selections; log = l }) allow last
-    × Says (behind (on_boot o.secure_boot o selections l) last) v.status v.text
+abbrev pub on_selected : (allow : Option (List ℕ)) → VouchedLog → Verdict
+on_selected None q = on_boot q
+on_selected (Some allow) q = behind (boot_if q.options.secure_boot (on_boot q)) (on_list q allow)
+
+-- ---- a log
 
 -- the bytes of a quote as it was signed, and those of a list, where there is one
 pub record QuoteFiles : Type 0 where
   pub attest : List ℕ
   pub allow : Option (List ℕ)
 
--- Behind a quote that is the one asked for that is said of what it selects.
-abbrev pub SaysBehind : CheckOptions → QuoteFiles → ParsedLog → Verdict → Type 0
-SaysBehind o g l v =
-    (selections : List Selection) × Selects g.attest selections × SaysOfSelected o g.allow selections l v
-
--- What the quote says beside the registers that the log gives comes first, and behind any other quote nothing.
+-- What the quote says beside the registers that the log gives comes first, and behind a quote that is the one asked for
+-- what is said of what it selects.
 abbrev pub SaysBeside : CheckOptions → QuoteFiles → Registers → ParsedLog → Verdict → Type 0
 SaysBeside o g found l v =
-    (first : Verdict)
+    (first last : Verdict)
     × ChecksAttest (beside o.form (value_in found.banks)) o g.attest first
-    × OnDone first.status
-    ((second : Verdict) × SaysBehind o g l second × Says (ended o.form (behind first second)) v.status v.text)
-    (Says (ended o.form first) v.status v.text)
+    × IsFollowed g.attest (λ selections. on_selected g.allow (record { options = o; selections = selections; log = l }))
+    first last
+    × Says (ended o.form last) v.status v.text
 
--- That is printed of a log, and else its fault. Behind that stands the status, where it is told as objects.
+-- That is printed of a log, with the status behind it where it is told as objects.
 abbrev pub ChecksBeside : CheckOptions → QuoteFiles → List ℕ → Status → List ℕ → Type 0
 ChecksBeside o g bytes status text =
-    ((l : ParsedLog) × (found : Registers)
-    × Parses bytes (Ok l)
-    × Replays AreAfter bytes (Ok found)
-    × SaysBeside o g found l (printed status text))
-    ⊎ TellsFault o.form bytes status text
+    TellsLog o.form
+    (λ l v. (found : Registers) × Replays AreAfter bytes (Ok found) × SaysBeside o g found l v)
+    bytes (printed status text)

@@ -22,8 +22,8 @@ use Rattle.tpm_output.specs.Status.{both}
 use Rattle.tpm_output.specs.Telling.{list, object, says}
 use Rattle.tpm_check.specs.AttestMarks.{marks_of_attest}
 use Rattle.tpm_check.specs.Check.{is_quote, mark_of_quote, verdict_word}
-use Rattle.tpm_check.specs.CheckJson.{refusal_text, rendered}
-use Rattle.tpm_check.specs.Compare.{Beside, Verdict, status_if}
+use Rattle.tpm_check.specs.CheckJson.{ok_text, refusal_text, rendered}
+use Rattle.tpm_check.specs.Compare.{Beside, Verdict, printed, refused, status_if}
 use Rattle.tpm_check.specs.declared.judged.Judged.{Judged}
 use Rattle.tpm_check.specs.declared.judged.Selected.TheVariants as selects
 use Rattle.tpm_check.specs.declared.judged.Selected.{Selected}
@@ -102,10 +102,15 @@ marks_of_judged form a j =
 
 abbrev pub on_attest : Beside → CheckOptions → Attest → Verdict
 on_attest b o a = let j = judged b o a in
-    record { status = status_if (is_asked_for o j); text = rendered b.form (marks_of_judged b.form a j) }
+    printed (status_if (is_asked_for o j)) (rendered b.form (marks_of_judged b.form a j))
 
+-- one behind the other
 abbrev pub behind : Verdict → Verdict → Verdict
-behind v w = record { status = both v.status w.status; text = v.text ++ w.text }
+behind v w = printed (both v.status w.status) (v.text ++ w.text)
+
+-- the status behind it, where it is told
+abbrev pub ended : Form → Verdict → Verdict
+ended form v = printed v.status (v.text ++ ok_text form v.status)
 
 -- ---- what is printed
 
@@ -131,8 +136,8 @@ hint bytes =
 abbrev pub ChecksAttest : Beside → CheckOptions → List ℕ → Verdict → Type 0
 ChecksAttest b o bytes v =
     ((a : Attest) × Spells attest a bytes × Says (on_attest b o a) v.status v.text)
-    ⊎ ((refusal : Refusal) × Fault attest bytes refusal × (v.status ≡ Refused)
-    × (v.text ≡ refusal_text b.form refusal (hint bytes)))
+    ⊎ ((refusal : Refusal) × Fault attest bytes refusal
+    × Says (refused (refusal_text b.form refusal (hint bytes))) v.status v.text)
 
 -- ---- behind it
 
@@ -146,3 +151,11 @@ Selects bytes selections =
 abbrev pub OnDone : Status → Type 0 → Type 0 → Type 0
 OnDone Done P Q = P
 OnDone Refused P Q = Q
+
+-- Behind what is said of a quote that is the one asked for comes what is said of what it selects, and behind any other
+-- nothing.
+abbrev pub IsFollowed : (attest : List ℕ) → (next : List Selection → Verdict) → (said : Verdict) → Verdict → Type 0
+IsFollowed attest next said v =
+    OnDone said.status
+    ((selections : List Selection) × Selects attest selections × Says (behind said (next selections)) v.status v.text)
+    (Says said v.status v.text)

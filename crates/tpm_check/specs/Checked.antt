@@ -8,19 +8,18 @@ use Rattle.tpm_log.specs.Takes.{IsOfBytes}
 use Rattle.tpm_options.specs.declared.CheckOptions.{CheckOptions}
 use Rattle.tpm_output.specs.declared.status.Status.TheVariants.{Done, Refused}
 use Rattle.tpm_output.specs.declared.status.Status.{Status}
-use Rattle.tpm_output.specs.Status.{both}
 use Rattle.tpm_output.specs.Text.{bytes_in}
 use Rattle.tpm_check.specs.Asked.{Asked}
-use Rattle.tpm_check.specs.Compare.{Beside, Comparison, Verdict, beside, compared, printed}
+use Rattle.tpm_check.specs.Compare.{Beside, Comparison, Verdict, beside, compared, printed, refused}
 use Rattle.tpm_check.specs.CheckJson.{ok_text, registers_told}
 use Rattle.tpm_events.specs.LogFaults.{fault_text}
 use Rattle.tpm_check.specs.Check.{ChecksQuote, ReadsIfList}
-use Rattle.tpm_check.specs.CheckAttest.{ChecksAttest}
+use Rattle.tpm_check.specs.CheckAttest.{ChecksAttest, Says, behind, ended}
 
 -- What the quote as it was signed says comes first, where there is one.
 abbrev pub ChecksSigned : Beside → Asked → Verdict → Type 0
 ChecksSigned b a v =
-    MatchOption a.attest ((v.status ≡ Done) × (v.text ≡ [])) (λ bytes. ChecksAttest b a.options bytes v)
+    MatchOption a.attest (Says (printed Done []) v.status v.text) (λ bytes. ChecksAttest b a.options bytes v)
 
 -- the registers, where they are compared with nothing
 abbrev pub registers_if : Beside → (others : Bool) → List ℕ
@@ -31,31 +30,25 @@ registers_if b false = registers_told b.form b.value all_algs
 abbrev pub ChecksValues : Beside → CheckOptions → (others : Bool) → Verdict → Type 0
 ChecksValues b o others v =
     MatchOption o.quote
-    ((v.status ≡ Done) × (v.text ≡ registers_if b others))
+    (Says (printed Done (registers_if b others)) v.status v.text)
     (λ quote. ChecksQuote b o.hash (bytes_in quote.now) v)
 
 -- Between them stands each line of a list beside the registers. A line that is wrong ends the output.
 abbrev pub ChecksBehind : Beside → CheckOptions → (others : Bool) → Comparison → Verdict → Type 0
 ChecksBehind b o others list v =
     MatchOption list.status
-    ((v.status ≡ Refused) × (v.text ≡ list.text))
+    (Says (refused list.text) v.status v.text)
     (λ second. (third : Verdict)
     × ChecksValues b o others third
-    × (v.status ≡ both second third.status)
-    × (v.text ≡ list.text ++ third.text))
-
-abbrev pub ChecksAll : Beside → Asked → (list : Option (List ℕ)) → Verdict → Type 0
-ChecksAll b a list v =
-    (first second : Verdict)
-    × ChecksSigned b a first
-    × ChecksBehind b a.options (is_some a.attest || is_some list) (compared b list) second
-    × (v.status ≡ both first.status second.status)
-    × (v.text ≡ first.text ++ second.text)
+    × Says (behind (printed second list.text) third) v.status v.text)
 
 -- Behind that stands the status, where it is told as objects.
 abbrev pub ChecksToEnd : Beside → Asked → (list : Option (List ℕ)) → Verdict → Type 0
 ChecksToEnd b a list v =
-    (told : List ℕ) × ChecksAll b a list (printed v.status told) × (v.text ≡ told ++ ok_text b.form v.status)
+    (first second : Verdict)
+    × ChecksSigned b a first
+    × ChecksBehind b a.options (is_some a.attest || is_some list) (compared b list) second
+    × Says (ended b.form (behind first second)) v.status v.text
 
 -- what a log is checked for, beside a list by what was to come of it and what is
 pub record Checking : Type 0 where

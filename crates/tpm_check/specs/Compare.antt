@@ -1,8 +1,8 @@
 -- What `check` prints of registers and of a list of them (this profile).
 use Rattle.std.specs.Prelude.{◌≡◌, ◌≢◌, ◌⊎◌, ℕ, ◌+◌, ◌≤◌, Bool, true, false, List, [], ◌∷◌, ◌++◌, length, map, codes}
-use Rattle.std.specs.Prelude.{Option, Some, None, option_map, if◌then◌else◌, is_some}
+use Rattle.std.specs.Prelude.{Option, Some, None, option_map}
 use Rattle.std.specs.Str.{bytes_eq}
-use Rattle.std.specs.List.{AllByRecursion, list_any}
+use Rattle.std.specs.List.{AllByRecursion}
 use Rattle.std.specs.Io.KnownBytes.{Consumes, IsAtEnd}
 use Rattle.tpm_types.specs.declared.alg.Alg.{Alg}
 use Rattle.tpm_lists.specs.declared.list_lines.Heading.TheVariants.{NoBank}
@@ -80,6 +80,9 @@ pub record Verdict : Type 0 where
 abbrev pub printed : Status → List ℕ → Verdict
 printed status text = record { status = status; text = text }
 
+abbrev pub refused : List ℕ → Verdict
+refused text = printed Refused text
+
 -- what is printed, and the status, or none where the output has ended
 pub record Comparison : Type 0 where
   pub text : List ℕ
@@ -99,37 +102,29 @@ comparison_of b n (Heads heading) rest = rest
 comparison_of b n Passes rest = rest
 comparison_of b n Wrong rest = record { text = not_a_register_text b.form n; status = None }
 
--- Of these lines the first has number n.
-abbrev pub comparison_from : Beside → ℕ → List ListLine → Comparison
-comparison_from b n [] = record { text = []; status = Some Done }
-comparison_from b n (first ∷ others) = comparison_of b n first (comparison_from b (n + 1) others)
-
-abbrev pub comparison : Beside → List ℕ → Comparison
-comparison b bytes = comparison_from b 1 (lines_under NoBank (lines_of bytes))
-
--- ---- the end of a list
-
-abbrev pub is_statement : ListLine → Bool
-is_statement (States s) = true
-is_statement _ = false
-
--- A line states a register, so that something is compared.
-abbrev pub states_any : List ℕ → Bool
-states_any bytes = list_any is_statement (lines_under NoBank (lines_of bytes))
+-- whether a line up to this one states a register, so that something is compared
+abbrev pub any_behind : (any : Bool) → ListLine → Bool
+any_behind any (States s) = true
+any_behind any _ = any
 
 -- where no line does
 abbrev pub no_register_text : Form → (any : Bool) → List ℕ
 no_register_text form true = []
 no_register_text form false = fault_told form (codes "no register")
 
+-- Of these lines the first has number n, and any before it states a register.
+abbrev pub comparison_from : Beside → ℕ → (any : Bool) → List ListLine → Comparison
+comparison_from b n any [] = record { text = no_register_text b.form any; status = Some (status_if any) }
+comparison_from b n any (first ∷ others) =
+    comparison_of b n first (comparison_from b (n + 1) (any_behind any first) others)
+
 -- of a whole list, and of none, which says nothing
+abbrev pub comparison : Beside → List ℕ → Comparison
+comparison b bytes = comparison_from b 1 false (lines_under NoBank (lines_of bytes))
+
 abbrev pub compared : Beside → Option (List ℕ) → Comparison
 compared b None = record { text = []; status = Some Done }
-compared b (Some bytes) = let c = comparison b bytes in let any = states_any bytes in
-    record {
-      text = c.text ++ (if is_some c.status then no_register_text b.form any else []);
-      status = option_map (λ status. both status (status_if any)) c.status;
-    }
+compared b (Some bytes) = comparison b bytes
 
 -- ---- what is read of a list
 

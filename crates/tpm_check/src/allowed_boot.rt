@@ -1,34 +1,31 @@
 //! The subcommand `check` of a list of allowed digests, beside a quote as it was signed.
 
-ghost use Rattle.std.specs.Prelude.{◌≡◌, ◌<◌, ◌^◌, ℕ, List, Ok, Some, false, map, IfOk, IfSome, IsErrOf};
+ghost use Rattle.std.specs.Prelude.{◌≡◌, ◌<◌, ◌^◌, ℕ, List, Some, false, map, IfOk, IfSome, IsErrOf};
 ghost use Rattle.std.specs.Prelude.{length, option_map, string_bytes};
 ghost use Rattle.std.specs.Io.KnownBytes.{Appends};
 ghost use Rattle.tpm_wire.specs.Sources.{IsWhereItFailed};
 ghost use Rattle.tpm_log.specs.Events.{ParsedLog, shown};
 ghost use Rattle.tpm_events.specs.ListEvents.{most_read};
 ghost use Rattle.tpm_output.specs.declared.fault.ToolFault.TheVariants.{InputTooLong, Read};
-ghost use Rattle.tpm_output.specs.declared.status.Status.TheVariants.{Refused};
 ghost use Rattle.tpm_output.specs.Faults.{FailsByMemoryOrWrite};
 ghost use Rattle.tpm_output.specs.InputLines.{CountsRead};
 ghost use Rattle.tpm_output.specs.Reads.{ReadsNoMore, ReadsUpTo};
 ghost use Rattle.tpm_lists.specs.Extensions.{extensions_in};
 ghost use Rattle.tpm_lists.specs.LookingUp.{IsLookedUp};
-ghost use Rattle.tpm_check.specs.AllowedBoot.{ChecksBeside, SaysBehind, SaysBeside, SaysOfList};
-ghost use Rattle.tpm_check.specs.AllowedBoot.{SaysOfRead, SaysOfSelected, on_boot, on_found};
-ghost use Rattle.tpm_check.specs.CheckAttest.{Says};
+ghost use Rattle.tpm_check.specs.AllowedBoot.{ChecksBeside, SaysBeside, boot_if, on_boot, on_digests};
+ghost use Rattle.tpm_check.specs.AllowedBoot.{on_list, on_selected};
+ghost use Rattle.tpm_check.specs.Compare.{printed};
 ghost use Rattle.tpm_check.specs.inner.AllowedBoot.{AreAllOf, vouched_log};
 ghost use Rattle.tpm_check.specs.inner.CheckAttest.{Adds};
-ghost use Rattle.tpm_check.specs.Compare.{Verdict, not_a_register_text, printed};
 
 use crate::allow_told::AllowTold;
 use crate::beside::Beside;
-use crate::check_json::{fault_answer, push_ok};
+use crate::check_json::{push_fault, push_ok};
 use crate::checked::tell_fault;
 use crate::compared::MOST_BYTES;
 use crate::judged::answer_to_attest;
 use crate::quoted_boot::{quoted_banks, selected};
 use crate::register_text::push_not_a_register;
-use crate::replayed::{ReplayedLog, replayed};
 use crate::told_secure_boot::push_log;
 use std::alloc::{AllocError, Global};
 use std::io::Write;
@@ -38,42 +35,11 @@ use tpm_log::Log;
 use tpm_options::CheckOptions;
 use tpm_output::answer::Answer;
 use tpm_output::fault::ToolFault;
-use tpm_output::form::Form;
 use tpm_output::reads::read_up_to;
 use tpm_output::status::Status;
 use tpm_pcr::Registers;
 use tpm_types::Selections;
 use tpm_wire::Source;
-
-// What is printed of a log beside a list.
-fn answer_to_found(
-    alloc: Global,
-    told: &AllowTold<'_, '_>,
-    quoted: &Selections,
-) -> Result<Answer, AllocError>
-    ensures { IfOk result (λ a. Says
-        (on_found told.now.form told.now.list.now quoted.now told.now.found.now)
-        a.status (string_bytes a.text)) }
-{
-    match told.list.digests() {
-        [] => fault_answer(alloc, told.form, "no register"),
-        [_, ..] => {
-            let mut text = String::new(alloc);
-            let status = told.push(&mut text, quoted)?;
-            Ok(Answer { status, text })
-        }
-    }
-}
-
-// That the line of this number is wrong.
-fn wrong_line(alloc: Global, form: Form, number: u64) -> Result<Answer, AllocError>
-    ensures { IfOk result (λ a. (a.status ≡ Refused)
-        × (string_bytes a.text ≡ not_a_register_text form number)) }
-{
-    let mut text = String::new(alloc);
-    push_not_a_register(&mut text, form, number)?;
-    Ok(Answer::refused(text))
-}
 
 // A log beside which a quote is the one asked for, what the quote selects, and what is asked for.
 #[derive(Clone, Copy)]
@@ -84,15 +50,16 @@ struct VouchedLog<'a, 'b, 'c> {
 }
 
 impl<'a, 'b, 'c> VouchedLog<'a, 'b, 'c> {
-    // What is printed of it beside these digests.
-    fn answer_to_digests<'d>(
+    // Adds what is said of it beside these digests.
+    fn push_digests<'d>(
         &self,
         alloc: Global,
+        text: &mut String,
         digests: &'d [AllowedLine<'d>],
-    ) -> Result<Answer, AllocError>
+    ) -> Result<Status, AllocError>
         requires { length digests.now < 2 ^ 32 }
-        ensures { IfOk result (λ a. SaysOfRead (vouched_log self.now) (Ok digests.now)
-            (printed a.status (string_bytes a.text))) }
+        ensures { IfOk result (λ status. Adds (on_digests (vouched_log self.now) digests.now)
+            status (string_bytes text.old) (string_bytes text.new)) }
     {
         let mut list = AllowIndex::new(alloc, digests)?;
         let found = unknown_in(alloc, &mut list, self.log)?;
@@ -101,29 +68,37 @@ impl<'a, 'b, 'c> VouchedLog<'a, 'b, 'c> {
             found: found.as_slice(),
             form: self.options.form,
         };
-        answer_to_found(alloc, &told, self.quoted)
+        told.push(text, self.quoted)
     }
 
-    // What is printed of it beside the bytes of a list.
-    fn answer_to_list(&self, alloc: Global, bytes: &[u8]) -> Result<Answer, AllocError>
-        ensures { IfOk result (λ a. SaysOfList (vouched_log self.now) bytes.now
-            (printed a.status (string_bytes a.text))) }
+    // Adds what is said of it beside the bytes of a list.
+    fn push_list(
+        &self,
+        alloc: Global,
+        text: &mut String,
+        bytes: &[u8],
+    ) -> Result<Status, AllocError>
+        ensures { IfOk result (λ status. Adds (on_list (vouched_log self.now) bytes.now)
+            status (string_bytes text.old) (string_bytes text.new)) }
     {
         let form = self.options.form;
         if bytes.len() > MOST_BYTES {
-            return fault_answer(alloc, form, "list too long");
+            push_fault(text, form, "list too long")?;
+            return Ok(Status::Refused);
         }
         match read_allowed(alloc, bytes)? {
-            Ok(digests) => self.answer_to_digests(alloc, digests.as_slice()),
-            Err(number) => wrong_line(alloc, form, number),
+            Ok(digests) => self.push_digests(alloc, text, digests.as_slice()),
+            Err(number) => {
+                push_not_a_register(text, form, number)?;
+                Ok(Status::Refused)
+            }
         }
     }
 
     // Adds whether Secure Boot was on, where that is asked for, in the banks whose register 7 is selected.
     fn push_boot(&self, alloc: Global, text: &mut String, asked: bool) -> Result<Status, AllocError>
-        ensures { IfOk result (λ status. Adds
-            (on_boot asked self.now.options.now self.now.quoted.now self.now.log.now) status
-            (string_bytes text.old) (string_bytes text.new)) }
+        ensures { IfOk result (λ status. Adds (boot_if asked (on_boot (vouched_log self.now)))
+            status (string_bytes text.old) (string_bytes text.new)) }
     {
         if !asked {
             return Ok(Status::Done);
@@ -132,49 +107,23 @@ impl<'a, 'b, 'c> VouchedLog<'a, 'b, 'c> {
         push_log(alloc, text, self.options, self.log, banks.as_slice())
     }
 
-    // Adds that, and what is said beside a list.
-    fn push_listed(
+    // Adds what is said of it, beside a list where there is one.
+    fn push(
         &self,
         alloc: Global,
         text: &mut String,
-        allow: &[u8],
+        allow: Option<&[u8]>,
     ) -> Result<Status, AllocError>
-        ensures { IfOk result (λ status. (second : Verdict)
-            × SaysOfSelected self.now.options.now (Some allow.now) self.now.quoted.now
-            self.now.log.now second
-            × Adds second status (string_bytes text.old) (string_bytes text.new)) }
+        ensures { IfOk result (λ status. Adds
+            (on_selected (option_map (λ a. a.now) allow.entry) (vouched_log self.now))
+            status (string_bytes text.old) (string_bytes text.new)) }
     {
+        let Some(allow) = allow else {
+            return self.push_boot(alloc, text, true);
+        };
         let boot = self.push_boot(alloc, text, self.options.secure_boot)?;
-        let last = self.answer_to_list(alloc, allow)?;
-        text.push_str(last.text.as_str())?;
-        Ok(boot.both(last.status))
-    }
-}
-
-// Adds what is said behind a quote that is the one asked for.
-fn push_behind(
-    alloc: Global,
-    text: &mut String,
-    options: &CheckOptions<'_>,
-    attest: &[u8],
-    allow: Option<&[u8]>,
-    log: &Log<'_>,
-) -> Result<Status, AllocError>
-    ensures { IfOk result (λ status. (second : Verdict)
-        × SaysBehind options.now
-        (record { attest = attest.now; allow = option_map (λ a. a.now) allow.entry })
-        log.now second
-        × Adds second status (string_bytes text.old) (string_bytes text.new)) }
-{
-    let quoted = &selected(attest);
-    let vouched = VouchedLog {
-        options,
-        quoted,
-        log,
-    };
-    match allow {
-        Some(allow) => vouched.push_listed(alloc, text, allow),
-        None => vouched.push_boot(alloc, text, true),
+        let list = self.push_list(alloc, text, allow)?;
+        Ok(boot.both(list))
     }
 }
 
@@ -184,26 +133,33 @@ fn answer_beside(
     options: &CheckOptions<'_>,
     attest: &[u8],
     allow: Option<&[u8]>,
-    found: &ReplayedLog<'_>,
+    log: &Log<'_>,
+    registers: &Registers,
 ) -> Result<Answer, AllocError>
     ensures { IfOk result (λ a. SaysBeside options.now
         (record { attest = attest.now; allow = option_map (λ a. a.now) allow.entry })
-        found.now.registers found.now.log (printed a.status (string_bytes a.text))) }
+        registers.now log.now (printed a.status (string_bytes a.text))) }
 {
     let form = options.form;
-    let beside = Beside {
-        registers: &found.registers,
-        form,
-    };
-    let first = answer_to_attest(alloc, &beside, options, attest)?;
+    let first = answer_to_attest(alloc, &Beside { registers, form }, options, attest)?;
     let mut text = first.text;
-    if first.status == Status::Refused {
-        push_ok(&mut text, form, Status::Refused)?;
-        return Ok(Answer::refused(text));
+    match first.status {
+        Status::Refused => {
+            push_ok(&mut text, form, Status::Refused)?;
+            Ok(Answer::refused(text))
+        }
+        Status::Done => {
+            let quoted = &selected(attest);
+            let vouched = VouchedLog {
+                options,
+                quoted,
+                log,
+            };
+            let status = vouched.push(alloc, &mut text, allow)?;
+            push_ok(&mut text, form, status)?;
+            Ok(Answer { status, text })
+        }
     }
-    let status = push_behind(alloc, &mut text, options, attest, allow, &found.log)?;
-    push_ok(&mut text, form, status)?;
-    Ok(Answer { status, text })
 }
 
 /// Prints what is said of a log beside a quote, and a list of allowed digests where there is one, or its fault.
@@ -222,8 +178,10 @@ pub(crate) fn print_beside<W: Write>(
         × Appends (W.contents out.old) (W.contents out.new) text) }
     ensures err { FailsByMemoryOrWrite result }
 {
-    match replayed(bytes) {
-        Ok(found) => answer_beside(alloc, options, attest, allow, &found)?.print(out),
+    match Log::replayed(bytes) {
+        Ok((log, registers)) => {
+            answer_beside(alloc, options, attest, allow, &log, &registers)?.print(out)
+        }
         Err(fault) => tell_fault(alloc, options.form, &fault, out),
     }
 }
@@ -269,10 +227,8 @@ fn answer_to_quoted(
         }
         Status::Done => {
             let told = AllowTold { list, found, form };
-            let last = answer_to_found(alloc, &told, &selected(attest))?;
-            text.push_str(last.text.as_str())?;
-            push_ok(&mut text, form, last.status)?;
-            let status = last.status;
+            let status = told.push(&mut text, &selected(attest))?;
+            push_ok(&mut text, form, status)?;
             Ok(Answer { status, text })
         }
     }

@@ -2,7 +2,6 @@
 
 ghost use Rattle.std.specs.Prelude.{◌≡◌, ◌++◌, IfOk, OnOk, option_map, string_bytes};
 ghost use Rattle.tpm_output.specs.declared.status.Status.TheVariants.{Refused};
-ghost use Rattle.tpm_output.specs.Json.{as_object};
 ghost use Rattle.tpm_output.specs.Numbers.{hexadecimal};
 ghost use Rattle.tpm_check.specs.CheckJson.{hint_line, is_ok, marks_of_refusal, ok_text, refusal_text};
 ghost use Rattle.tpm_check.specs.Compare.{fault_told, status_if};
@@ -48,13 +47,6 @@ impl<'a, 'b> Tell for ToldRefusal<'a, 'b> {
     }
 }
 
-fn push_refused(text: &mut String, digits: &str, at: u32, hint: Option<&str>) -> Pushed
-    ensures { OnOk result (string_bytes text.new ≡ string_bytes text.old
-        ++ as_object (marks_of_refusal digits.now at (option_map (λ h. h.now) hint.entry))) }
-{
-    push_object(text, &ToldRefusal { digits, at, hint })
-}
-
 fn push_hint_line(text: &mut String, hint: Option<&str>) -> Pushed
     ensures { OnOk result (string_bytes text.new
         ≡ string_bytes text.old ++ hint_line (option_map (λ h. h.now) hint.entry)) }
@@ -85,7 +77,12 @@ pub(crate) fn refusal_answer(
         }
         Form::Json => {
             let digits = digits(alloc, refusal.code)?;
-            push_refused(&mut text, digits.as_str(), refusal.at, hint)?;
+            let told = ToldRefusal {
+                digits: digits.as_str(),
+                at: refusal.at,
+                hint,
+            };
+            push_object(&mut text, &told)?;
         }
     }
     Ok(Answer::refused(text))

@@ -14,7 +14,7 @@ ghost use Rattle.tpm_check.specs.Asked.{asked_by};
 ghost use Rattle.tpm_check.specs.CheckJson.{ok_text};
 ghost use Rattle.tpm_check.specs.Check.{CountsReads, FailsLast, ReadsIfList, ReadsTooMuchIfList};
 ghost use Rattle.tpm_check.specs.Check.{failures_of, has_stopped};
-ghost use Rattle.tpm_check.specs.Checked.{ChecksAll, ChecksLog, ChecksSigned, ChecksToEnd, ChecksValues};
+ghost use Rattle.tpm_check.specs.Checked.{ChecksLog, ChecksSigned, ChecksToEnd, ChecksValues};
 ghost use Rattle.tpm_events.specs.LogFaults.{fault_text};
 ghost use Rattle.tpm_log.specs.Changes.{AreAfter};
 ghost use Rattle.tpm_log.specs.Replays.{ReplaysFrom, ReadsFrom};
@@ -122,35 +122,7 @@ fn is_compared<F>(attest: Option<&[u8]>, list: &Option<F>) -> bool
     attest.is_some() || list.is_some()
 }
 
-// Compares registers with all that is given, or prints them.
-fn print_compared<F: Source, W: Write>(
-    alloc: Global,
-    found: &Beside<'_>,
-    asked: &Asked<'_, '_>,
-    list: &mut Option<F>,
-    out: &mut W,
-) -> Result<Status, ToolFault>
-    ensures failures { CountsRead
-        (failures_of F.failed list.old) (failures_of F.failed list.new) result }
-    ensures stop { IsErrOf result Read → IsWhereItFailed (has_stopped F.stopped list.new) }
-    ensures ok { IfOk result (λ status. (bytes : Option (List ℕ)) × (text : List ℕ)
-        × ReadsIfList (told found.now)
-        (option_map F.coming list.old) (option_map F.coming list.new) bytes
-        × ChecksAll (told found.now) (asked_by asked.now) bytes (printed status text)
-        × Appends (W.contents out.old) (W.contents out.new) text) }
-    ensures too_long { IsErrOf result InputTooLong
-        → ReadsTooMuchIfList (option_map F.coming list.old) (option_map F.coming list.new) }
-{
-    let others = is_compared(asked.attest, list);
-    let first = answer_to_signed(alloc, found, asked)?.print(out)?;
-    let Some(second) = check_list(alloc, found, list, out)? else {
-        return Ok(Status::Refused);
-    };
-    let third = answer_last(alloc, found, asked.options, others)?.print(out)?;
-    Ok(first.both(second.both(third)))
-}
-
-// The same, and the status where it is told.
+// Compares registers with all that is given, or prints them, and prints the status where it is told.
 fn print_to_end<F: Source, W: Write>(
     alloc: Global,
     found: &Beside<'_>,
@@ -169,8 +141,13 @@ fn print_to_end<F: Source, W: Write>(
     ensures too_long { IsErrOf result InputTooLong
         → ReadsTooMuchIfList (option_map F.coming list.old) (option_map F.coming list.new) }
 {
-    let status = print_compared(alloc, found, asked, list, out)?;
-    print_ok(alloc, found.form, status, out)
+    let others = is_compared(asked.attest, list);
+    let first = answer_to_signed(alloc, found, asked)?.print(out)?;
+    let Some(second) = check_list(alloc, found, list, out)? else {
+        return print_ok(alloc, found.form, Status::Refused, out);
+    };
+    let third = answer_last(alloc, found, asked.options, others)?.print(out)?;
+    print_ok(alloc, found.form, first.both(second.both(third)), out)
 }
 
 /// Replays a log of a measured boot, and prints the registers that it gives, or compares them with what is given: a

@@ -1,6 +1,6 @@
 //! A list of registers in the subcommand `check`.
 
-ghost use Rattle.std.specs.Prelude.{◌≡◌, ℕ, List, Option, Some, IfOk, IfSome, OnOk, IsErrOf};
+ghost use Rattle.std.specs.Prelude.{◌≡◌, ℕ, List, Option, IfOk, OnOk, IsErrOf};
 ghost use Rattle.std.specs.Prelude.{is_some, option_map, string_bytes};
 ghost use Rattle.std.specs.Io.KnownBytes.{Appends};
 ghost use Rattle.tpm_wire.specs.Sources.{IsWhereItFailed};
@@ -11,9 +11,9 @@ ghost use Rattle.tpm_output.specs.LineSinks.{some_if};
 ghost use Rattle.tpm_output.specs.Status.{both};
 ghost use Rattle.tpm_lists.specs.ListLines.{line_under, stated_as};
 ghost use Rattle.tpm_check.specs.Check.{ReadsIfList, ReadsTooMuchIfList, failures_of, has_stopped};
-ghost use Rattle.tpm_check.specs.Compare.{compared, comparison, no_register_text, states_any, status_if};
+ghost use Rattle.tpm_check.specs.Compare.{compared, comparison, no_register_text, status_if};
 ghost use Rattle.tpm_check.specs.Compare.{ReadsList, ReadsTooMuchList};
-ghost use Rattle.tpm_check.specs.inner.Comparing.{line_behind, line_text, stated_behind, stated_text};
+ghost use Rattle.tpm_check.specs.inner.Comparing.{finished, line_behind, line_text, stated_behind, stated_text};
 ghost use Rattle.tpm_check.specs.inner.Told.{told};
 
 use crate::beside::Beside;
@@ -24,7 +24,6 @@ use std::io::Write;
 use tpm_lists::{Heading, ListLine, MOST_LINE, Stated, read_line};
 use tpm_output::answer::write;
 use tpm_output::fault::ToolFault;
-use tpm_output::form::Form;
 use tpm_output::input_lines::{LineSink, take_lines};
 use tpm_output::status::Status;
 use tpm_output::text::Pushed;
@@ -133,15 +132,15 @@ impl LineSink for Comparing<'_> {
 
 impl Comparing<'_> {
     // The status of a whole list. Where no line of it states a register, that is printed.
-    fn end<W: Write>(&self, alloc: Global, form: Form, out: &mut W) -> Result<Status, ToolFault>
+    fn end<W: Write>(&self, alloc: Global, out: &mut W) -> Result<Status, ToolFault>
         ensures ok { IfOk result (λ status. (status
             ≡ both self.now.status (status_if self.now.any))
             × Appends (W.contents out.old) (W.contents out.new)
-            (no_register_text form self.now.any)) }
+            (no_register_text self.now.found.now.form self.now.any)) }
         ensures err { FailsByMemoryOrWrite result }
     {
         let mut text = String::new(alloc);
-        push_no_register(&mut text, form, self.any)?;
+        push_no_register(&mut text, self.found.form, self.any)?;
         write(out, &text)?;
         Ok(self.status.both(status_if(self.any)))
     }
@@ -157,12 +156,10 @@ fn compare_lines<'a, F: Source, W: Write>(
 ) -> Result<Option<Comparing<'a>>, ToolFault>
     ensures failures { CountsRead (F.failed list.old) (F.failed list.new) result }
     ensures stop { IsErrOf result Read → IsWhereItFailed (F.stopped list.new) }
-    ensures ok { IfOk result (λ left. (bytes : List ℕ)
+    ensures ok { IfOk result (λ left. (bytes text : List ℕ)
         × ReadsList (told found.now) (F.coming list.old) (F.coming list.new) bytes
-        × (option_map (λ k. k.status) left ≡ (comparison (told found.now) bytes).status)
-        × IfSome left (λ k. k.any ≡ states_any bytes)
-        × Appends (W.contents out.old) (W.contents out.new)
-        (comparison (told found.now) bytes).text) }
+        × (finished left text ≡ comparison (told found.now) bytes)
+        × Appends (W.contents out.old) (W.contents out.new) text) }
     ensures too_long { IsErrOf result InputTooLong
         → ReadsTooMuchList (F.coming list.old) (F.coming list.new) }
 {
@@ -173,30 +170,6 @@ fn compare_lines<'a, F: Source, W: Write>(
         any: false,
     };
     take_lines(alloc, list, out, comparing, MOST_BYTES)
-}
-
-// Compares a list with registers, and prints of each line that states one whether they match, and behind them whether
-// none does.
-fn compare_list<F: Source, W: Write>(
-    alloc: Global,
-    found: &Beside<'_>,
-    list: &mut F,
-    out: &mut W,
-) -> Result<Option<Status>, ToolFault>
-    ensures failures { CountsRead (F.failed list.old) (F.failed list.new) result }
-    ensures stop { IsErrOf result Read → IsWhereItFailed (F.stopped list.new) }
-    ensures ok { IfOk result (λ status. (bytes : List ℕ)
-        × ReadsList (told found.now) (F.coming list.old) (F.coming list.new) bytes
-        × (status ≡ (compared (told found.now) (Some bytes)).status)
-        × Appends (W.contents out.old) (W.contents out.new)
-        (compared (told found.now) (Some bytes)).text) }
-    ensures too_long { IsErrOf result InputTooLong
-        → ReadsTooMuchList (F.coming list.old) (F.coming list.new) }
-{
-    match compare_lines(alloc, found, list, out)? {
-        Some(comparing) => Ok(Some(comparing.end(alloc, found.form, out)?)),
-        None => Ok(None),
-    }
 }
 
 /// Compares a list of registers, where there is one, with those that were found, and prints of each line that states
@@ -221,8 +194,11 @@ pub(crate) fn check_list<F: Source, W: Write>(
     ensures too_long { IsErrOf result InputTooLong
         → ReadsTooMuchIfList (option_map F.coming list.old) (option_map F.coming list.new) }
 {
-    match list {
-        Some(list) => compare_list(alloc, found, list, out),
-        None => Ok(Some(Status::Done)),
+    let Some(list) = list else {
+        return Ok(Some(Status::Done));
+    };
+    match compare_lines(alloc, found, list, out)? {
+        Some(comparing) => Ok(Some(comparing.end(alloc, out)?)),
+        None => Ok(None),
     }
 }

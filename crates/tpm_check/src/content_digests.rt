@@ -6,7 +6,6 @@ ghost use Rattle.tpm_hmac.specs.Hashes.{digest};
 ghost use Rattle.tpm_output.specs.Marks.{Bytes, Says};
 
 use std::alloc::{AllocError, Global};
-use std::marker::Model;
 use tpm_hmac::hash;
 use tpm_output::mark::{Mark, Value};
 use tpm_output::teller::{Teller, Told};
@@ -18,18 +17,7 @@ use tpm_types::{Alg, Digest};
 struct Content<'a> {
     bytes: &'a [u8],
     sha256: Digest,
-}
-
-impl<'a> Model for Content<'a> {
-    ghost use Rattle.std.specs.Prelude.{◌≡◌, List, ℕ};
-    ghost use Rattle.tpm_types.specs.declared.alg.Alg.TheVariants.{Sha256};
-    ghost use Rattle.tpm_hmac.specs.Hashes.{digest};
-
-    ghost Value = { List ℕ };
-
-    ghost view = { λ c. c.bytes.now };
-
-    ghost invariant = { λ c. c.sha256 ≡ digest Sha256 c.bytes.now };
+    ghost hashed: { sha256 ≡ digest Sha256 bytes.now },
 }
 
 /// The digests of the contents that were told, for the banks behind.

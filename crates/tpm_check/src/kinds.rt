@@ -1,6 +1,6 @@
 //! The subcommand `explain` of the kind of a log's fault.
 
-ghost use Rattle.std.specs.Prelude.{◌≡◌, ◌++◌, ℕ, List, IfOk, MatchOption, OnOk, map, option_map, string_bytes};
+ghost use Rattle.std.specs.Prelude.{◌≡◌, ℕ, List, IfOk, MatchOption, map, option_map, string_bytes};
 ghost use Rattle.std.specs.Io.KnownBytes.{Appends};
 ghost use Rattle.tpm_log.specs.declared.fault.LogFaultKind.{LogFaultKind as LogFaultKindValue};
 ghost use Rattle.tpm_secure_boot.specs.declared.verdict.SecureBootFaultKind.{SecureBootFaultKind as BootFaultKindValue};
@@ -20,7 +20,6 @@ use tpm_log::LogFaultKind;
 use tpm_output::answer::Answer;
 use tpm_output::fault::ToolFault;
 use tpm_output::status::Status;
-use tpm_output::text::Pushed;
 use tpm_secure_boot::SecureBootFaultKind;
 
 /// The names of all kinds, each once.
@@ -202,19 +201,12 @@ fn list_words(kind: SignatureFaultKind) -> &'static str
 }
 
 #[tactic(auto, unfolding(crate::specs::Kinds::kind_line))]
-fn push_kind(text: &mut String, name: &str, words: &str) -> Pushed
-    ensures { OnOk result (string_bytes text.new
-        ≡ string_bytes text.old ++ kind_line name.now words.now) }
-{
-    writeln!(text, "{name}: {words}")
-}
-
 fn explained(alloc: Global, name: &str, words: &str) -> Result<Answer, AllocError>
     ensures { IfOk result (λ a. (a.status ≡ Done)
         × (string_bytes a.text ≡ kind_line name.now words.now)) }
 {
     let mut text = String::new(alloc);
-    push_kind(&mut text, name, words)?;
+    writeln!(text, "{name}: {words}")?;
     Ok(Answer::done(text))
 }
 

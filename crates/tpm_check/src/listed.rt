@@ -13,7 +13,6 @@ use crate::check_json::push_ok;
 use crate::checked::tell_fault;
 use crate::registers_told::ToldRegisters;
 use crate::renderings::rendered;
-use crate::replayed::replayed;
 use crate::told_secure_boot::listed_banks;
 use std::alloc::{AllocError, Global};
 use std::io::Write;
@@ -63,8 +62,8 @@ pub fn check_listed<W: Write>(
         × Appends (W.contents out.old) (W.contents out.new) text) }
     ensures err { FailsByMemoryOrWrite result }
 {
-    match replayed(bytes) {
-        Ok(found) => answer_to_log(alloc, form, &found.registers, &found.log)?.print(out),
+    match Log::replayed(bytes) {
+        Ok((log, found)) => answer_to_log(alloc, form, &found, &log)?.print(out),
         Err(fault) => tell_fault(alloc, form, &fault, out),
     }
 }

@@ -1,20 +1,20 @@
 //! The subcommand `events`, beside a quote as it was signed.
 
-ghost use Rattle.std.specs.Prelude.{◌≡◌, ℕ, List, Some, map, IfOk, IsErrOf, string_bytes};
+ghost use Rattle.std.specs.Prelude.{ℕ, List, Some, map, IfOk, IsErrOf, string_bytes};
 ghost use Rattle.std.specs.Io.KnownBytes.{Appends};
 ghost use Rattle.tpm_log.specs.Events.{shown};
 ghost use Rattle.tpm_pcr.specs.Registers.{value_in};
 ghost use Rattle.tpm_wire.specs.Sources.{IsWhereItFailed};
 ghost use Rattle.tpm_output.specs.declared.fault.ToolFault.TheVariants.{InputTooLong, Read};
+ghost use Rattle.tpm_output.specs.declared.status.Status.TheVariants.{Done};
 ghost use Rattle.tpm_output.specs.Faults.{FailsByMemoryOrWrite};
 ghost use Rattle.tpm_output.specs.InputLines.{CountsRead};
 ghost use Rattle.tpm_output.specs.Reads.{ReadsNoMore, ReadsUpTo};
 ghost use Rattle.tpm_events.specs.ListEvents.{events_from, most_read};
-ghost use Rattle.tpm_check.specs.CheckAttest.{ChecksAttest, Says};
+ghost use Rattle.tpm_check.specs.CheckAttest.{ChecksAttest, IsFollowed, Says, ended};
 ghost use Rattle.tpm_check.specs.Compare.{Verdict, beside, printed};
-ghost use Rattle.tpm_check.specs.SecureBootLines.{ended};
 ghost use Rattle.tpm_check.specs.Asked.{asked_by};
-ghost use Rattle.tpm_check.specs.VouchedEvents.{IsFollowed, ListsBeside, ListsVouched};
+ghost use Rattle.tpm_check.specs.VouchedEvents.{ListsBeside, ListsVouched};
 
 use crate::asked::Asked;
 use crate::beside::Beside;
@@ -22,7 +22,6 @@ use crate::check_json::push_ok;
 use crate::checked::tell_fault;
 use crate::judged::answer_to_attest;
 use crate::quoted_boot::selected;
-use crate::replayed::replayed;
 use std::alloc::{AllocError, Global};
 use std::io::Write;
 use tpm_events::listed_events::MOST_READ;
@@ -68,8 +67,8 @@ fn print_behind<W: Write>(
 ) -> Result<Status, ToolFault>
     ensures ok { IfOk result (λ status. (text : List ℕ)
         × IsFollowed attest.now
-        (λ selections. events_from listing.entry (Some selections) log.now.size 1
-        (map shown log.now.records))
+        (λ selections. printed Done
+        (events_from listing.entry (Some selections) log.now.size 1 (map shown log.now.records)))
         (printed said.now.status (string_bytes said.now.text)) (printed status text)
         × Appends (W.contents out.old) (W.contents out.new) text) }
     ensures err { FailsByMemoryOrWrite result }
@@ -102,16 +101,14 @@ fn print_vouched<W: Write>(
     ensures err { FailsByMemoryOrWrite result }
 {
     let form = listing.form;
-    let found = match replayed(bytes) {
-        Ok(found) => found,
-        Err(fault) => return tell_fault(alloc, form, &fault, out),
-    };
-    let beside = Beside {
-        registers: &found.registers,
-        form,
-    };
-    let said = answer_to_end(alloc, &beside, options, attest)?;
-    print_behind(alloc, listing, &said, attest, &found.log, out)
+    match Log::replayed(bytes) {
+        Ok((log, registers)) => {
+            let registers = &registers;
+            let said = answer_to_end(alloc, &Beside { registers, form }, options, attest)?;
+            print_behind(alloc, listing, &said, attest, &log, out)
+        }
+        Err(fault) => tell_fault(alloc, form, &fault, out),
+    }
 }
 
 /// Prints the records of a log, as `list_events` does; or what the bytes of a quote as it was signed say beside the

@@ -7,7 +7,7 @@ use Rattle.tpm_lists.specs.AllowLines.{allowed_in}
 use Rattle.tpm_check.specs.AllowedBoot.{VouchedLog}
 
 abbrev pub vouched_log : VouchedLogInCode → VouchedLog
-vouched_log q = record { form = q.options.now.form; selections = q.quoted.now; log = q.log.now }
+vouched_log q = record { options = q.options.now; selections = q.quoted.now; log = q.log.now }
 
 -- The list isn't too long, and has these digests and no line that is wrong.
 abbrev pub AreAllOf : List ℕ → List AllowedDigest → Type 0

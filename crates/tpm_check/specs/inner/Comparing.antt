@@ -1,8 +1,9 @@
 -- What comes of a line of a list of registers.
-use Rattle.std.specs.Prelude.{◌≡◌, ℕ, true, List, [], Option, Some, None}
+use Rattle.std.specs.Prelude.{◌≡◌, ℕ, true, List, [], ◌++◌, Option, Some, None}
 use Rattle.tpm_check.specs.declared.compared.Comparing.{Comparing}
 use Rattle.tpm_lists.specs.ListLines.{Stated, ListLine, States, Heads, Passes, Wrong, line_under, most_line}
-use Rattle.tpm_check.specs.Compare.{Beside, is_value, compared_text, not_a_register_text, status_if}
+use Rattle.tpm_check.specs.Compare.{Beside, Comparison, is_value, compared_text, no_register_text, not_a_register_text}
+use Rattle.tpm_check.specs.Compare.{status_if}
 use Rattle.tpm_check.specs.inner.Told.{told}
 use Rattle.tpm_output.specs.Status.{both}
 use Rattle.tpm_output.specs.LineSinks.{Limits, LineStep}
@@ -39,3 +40,11 @@ line_behind c Wrong = None
 abbrev pub Compares : LineStep Comparing → Type 0
 Compares step = let says = line_under step.old.heading step.line in
     (step.new ≡ line_behind step.old says) × (step.text ≡ line_text (told step.old.found.now) step.number says)
+
+-- what is printed of a whole list whose lines leave this, and of which this was printed
+abbrev pub finished : Option Comparing → (text : List ℕ) → Comparison
+finished None text = record { text = text; status = None }
+finished (Some c) text = record {
+  text = text ++ no_register_text c.found.now.form c.any;
+  status = Some (both c.status (status_if c.any));
+}

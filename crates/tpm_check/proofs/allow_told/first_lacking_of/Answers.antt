@@ -4,7 +4,7 @@ use Rattle.tpm_pcr.specs.Registers.{all_registers}
 use Rattle.tpm_pcr.proofs.Choice.{register_more}
 use Rattle.tpm_quote.specs.Attests.{register_of}
 use Rattle.tpm_check.specs.AllowTold.{is_lacking}
-use Rattle.tpm_check.proofs.AllowTelling.{found_at, none_more}
+use Rattle.tpm_check.proofs.FirstOf.{found_at, none_more}
 use Rattle.tpm_check.proofs.allow_told.first_lacking_of.Goals as goal
 
 pub returns-then-is_lacking : goal.returns-then-is_lacking

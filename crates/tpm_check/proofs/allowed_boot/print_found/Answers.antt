@@ -21,6 +21,6 @@ pub returns-in-Err-clause-ok : goal.returns-in-Err-clause-ok
 returns-in-Err-clause-ok g c =
     IfOk-weaker c.tell_fault.result _ _ (λ status told. λ allow bytes are looked. (
       _,
-      inr (c.in-Err.fault, c.in-Err.ensures c.args.list.now bytes looked, told.0, refl),
+      inr (c.in-Err.fault, c.in-Err.ensures c.args.list.now bytes looked, (told.0, refl)),
       told.1,
     )) c.tell_fault.ensures.ok

@@ -1,4 +1,4 @@
-use Rattle.std.proofs.Common.{◌++◌, List, Some, ℕ, map, string_bytes, subst}
+use Rattle.std.proofs.Common.{◌++◌, List, Some, ℕ, map, string_bytes, subst, sym, ◌∙◌}
 use Rattle.std.specs.Io.KnownBytes.{Appends}
 use Rattle.tpm_types.specs.declared.tpms.Selection.{Selection}
 use Rattle.tpm_log.specs.Events.{shown}
@@ -19,7 +19,6 @@ returns-in_ok-print_events-in-Done-clause-ok g c =
     let behind = subst (λ (s : List Selection). Appends (contents c.print.new.out) (contents c.print_events.new.out) (records s))
     c.as_slice.ensures.value c.in_ok-print_events-in-Done.ensures.ok in (
       before ++ records selections,
-      followed c.args.attest.now records (printed c.args.said.now.status before) c.in_ok-print.field-0 selections first.0 c.in-Done.is
-          c.selected-selections.ensures,
+      followed c.args.attest.now records (printed c.args.said.now.status before) selections (sym first.0 ∙ c.in-Done.is) c.selected-selections.ensures,
       joins_appends (contents c.args.out.now) (contents c.print.new.out) (contents c.print_events.new.out) before (records selections) first.1 behind,
     )

@@ -1,23 +1,13 @@
--- Registers beside a list of allowed digests, one more.
+-- What is said of the first registers, one more; and the first that is sought.
 use Rattle.std.proofs.Common.{◌≡◌, ℕ, ◌+◌, ◌++◌, Bool, true, false, List, [], ◌∷◌, Option, Some, None, append_assoc, take, drop, refl, ap, sym, ◌∙◌, arith}
 use Rattle.std.proofs.lemmas.List.Folds.{find-append}
 use Rattle.std.proofs.lemmas.List.{take-append-drop}
 use Rattle.std.specs.Option.{option_or}
 use Rattle.std.specs.Prelude.{find, suc}
-use Rattle.tpm_types.specs.declared.alg.Alg.{Alg}
-use Rattle.tpm_vouched.specs.declared.allowed.AllowedDigest.{AllowedDigest}
-use Rattle.tpm_output.specs.declared.form.Form.{Form}
-use Rattle.tpm_check.specs.AllowTold.{bank_told, register_told}
-use Rattle.tpm_lists.specs.Extensions.{Extension}
-use Rattle.tpm_check.specs.ExtendsTold.{bank_extends, once_from}
+use Rattle.tpm_check.specs.FirstOf.{first_of}
 
-pub bank_more : (form : Form) (list : List AllowedDigest) (found : List Extension) (bank : Alg) (n : ℕ)
-    → bank_told form list found bank (n + 1) ≡ bank_told form list found bank n ++ register_told form list found bank n
-bank_more form list found bank n = let e : n + 1 ≡ suc n = omega arith in rw e refl
-
-pub extends_more : (found : List Extension) (bank : Alg) (n : ℕ)
-    → bank_extends found bank (n + 1) ≡ bank_extends found bank n ++ once_from bank n [] found
-extends_more found bank n = let e : n + 1 ≡ suc n = omega arith in rw e refl
+pub one_more : (one : ℕ → List ℕ) (n : ℕ) → first_of one (n + 1) ≡ first_of one n ++ one n
+one_more one n = let e : n + 1 ≡ suc n = omega arith in rw e refl
 
 -- ---- the first number that is sought
 
