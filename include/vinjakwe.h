@@ -609,7 +609,8 @@ struct tpm_allowed {
  * is EV_NO_ACTION, which extends nothing; or TPM_QUOTE_NO_BANK. Each call goes through the list.
  *
  * Where TPM_NOT_ALLOWED is answered of no digest of any record of a log, and a quote that selects each register of the list matches the
- * log (tpm_log_check_attest), each log that it vouches for has digests of the list alone in these registers. */
+ * log (tpm_log_check_attest), each log that it vouches for has digests of the list alone in these registers: where no two different
+ * texts hashed share a hash, and none has a register's start value as its hash. */
 uint32_t tpm_log_allowed(const struct tpm_allowed *list, size_t len, uint32_t pcr, uint32_t kind, uint16_t hash, const uint8_t *digest,
                          size_t digest_len);
 
