@@ -12,8 +12,7 @@ ghost use Rattle.tpm_buffer.specs.inner.CommandAreas.{areas_view};
 ghost use Rattle.tpm_buffer.specs.CommandAreas.{IsAreas, HasAreas, IsSpelledBy};
 ghost use Rattle.tpm_buffer.specs.inner.CommandAreas.{cut_of};
 
-use crate::command_header::{NO_SESSIONS, long_fault, take_header};
-use crate::command_sessions::{AuthRef, read_authorization};
+use crate::command_parts::{AuthRef, NO_SESSIONS, long_fault, read_authorization, take_header};
 use arrayvec::ArrayVec;
 use std::marker::Model;
 use tpm_commands::{Header, take_handles};
@@ -108,21 +107,15 @@ impl<'a> Headed<'a> {
         ensures decodes { HasHandles self.entry result }
         ensures reads { IsHandled self.entry result }
     {
-        read_handles(self)
+        let header = self.header;
+        let mut cursor = self.cursor;
+        let handles = take_handles(&mut cursor, header.code)?;
+        Ok(Handled {
+            header,
+            handles,
+            cursor,
+        })
     }
-}
-
-fn read_handles(headed: Headed<'_>) -> Result<Handled<'_>, Refusal>
-    ensures { IsHandled headed.entry result }
-{
-    let header = headed.header;
-    let mut cursor = headed.cursor;
-    let handles = take_handles(&mut cursor, header.code)?;
-    Ok(Handled {
-        header,
-        handles,
-        cursor,
-    })
 }
 
 impl<'a> Handled<'a> {
@@ -140,7 +133,7 @@ impl<'a> Handled<'a> {
         ensures reads { IsAreas self.entry result }
     {
         let mut areas = Areas::default();
-        match read_areas(self, &mut areas) {
+        match self.areas_into(&mut areas) {
             Ok(()) => Ok(areas),
             Err(fault) => Err(fault),
         }
@@ -151,21 +144,14 @@ impl<'a> Handled<'a> {
         ensures reads { OnOk result (IsAreas self.entry (Ok areas.new)) }
         ensures refuses { IfErr result (λ fault. IsAreas self.entry (Err fault)) }
     {
-        read_areas(self, areas)
+        let mut cursor = self.cursor;
+        areas.header = self.header;
+        areas.handles = self.handles;
+        read_authorization(&mut cursor, self.header.tag, &mut areas.auths)?;
+        areas.params_at = cursor.at();
+        areas.params = cursor.remaining();
+        Ok(())
     }
-}
-
-fn read_areas<'a>(handled: Handled<'a>, areas: &mut Areas<'a>) -> Result<(), Refusal>
-    ensures reads { OnOk result (IsAreas handled.entry (Ok areas.new)) }
-    ensures refuses { IfErr result (λ fault. IsAreas handled.entry (Err fault)) }
-{
-    let mut cursor = handled.cursor;
-    areas.header = handled.header;
-    areas.handles = handled.handles;
-    read_authorization(&mut cursor, handled.header.tag, &mut areas.auths)?;
-    areas.params_at = cursor.at();
-    areas.params = cursor.remaining();
-    Ok(())
 }
 
 /// Those of a TPM2_Startup that has no parameters.
@@ -246,30 +232,17 @@ impl<'a> Areas<'a> {
     }
 }
 
-fn short_header(bytes: &[u8]) -> Result<Headed<'_>, Refusal>
-    requires { length bytes.now ≤ 4096 }
-    ensures { Gives head_and_rest (read 0 header_layout (at_start bytes.now)) result }
-{
-    let mut cursor = Cursor::new(bytes);
-    let header = take_header(&mut cursor)?;
-    Ok(Headed { header, cursor })
-}
-
-fn any_header(bytes: &[u8]) -> Result<Headed<'_>, Refusal>
-    ensures { Gives head_and_rest (read 0 header_layout (at_start bytes.now)) result }
-{
-    if bytes.len() > 4096 {
-        return Err(long_fault(bytes));
-    }
-    short_header(bytes)
-}
-
 /// The header that the bytes begin with, or its fault: INSUFFICIENT, BAD_TAG, COMMAND_SIZE or COMMAND_CODE.
 pub fn header(bytes: &[u8]) -> Result<Headed<'_>, Refusal>
     ensures decodes { Decodes (cut header_layout) (λ x. (x.header, x.here.rest)) bytes.now result }
     ensures reads { Gives head_and_rest (read 0 header_layout (at_start bytes.now)) result }
 {
-    any_header(bytes)
+    if bytes.len() > 4096 {
+        return Err(long_fault(bytes));
+    }
+    let mut cursor = Cursor::new(bytes);
+    let header = take_header(&mut cursor)?;
+    Ok(Headed { header, cursor })
 }
 
 /// Reads all that stands before the parameters of the command, which begin where the cursor is

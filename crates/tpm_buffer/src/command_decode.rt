@@ -11,7 +11,7 @@ ghost use Rattle.tpm_buffer.specs.Commands.{before_params, command};
 ghost use Rattle.tpm_buffer.specs.CommandAreas.{Cut, HasCut, IsSpelledBy};
 
 use crate::command_areas::{Areas, any_areas, read_before_params};
-use crate::command_header::long_fault;
+use crate::command_parts::long_fault;
 use arrayvec::ArrayVec;
 use tpm_commands::{Command, CommandBody};
 use tpm_types::StartupType;

@@ -4,9 +4,8 @@
 mod command_areas;
 mod command_decode;
 mod command_encode;
-mod command_header;
 mod command_join;
-mod command_sessions;
+mod command_parts;
 mod laws;
 mod response_areas;
 mod response_decode;
@@ -17,9 +16,8 @@ mod response_sessions;
 pub use command_areas::{Areas, Handled, Headed, header};
 pub use command_decode::{areas, decode_command, one_spelling};
 pub use command_encode::{encode_command, put_command};
-pub use command_header::{NO_SESSIONS, SESSIONS, tag_for};
 pub use command_join::{UnjoinedCommand, join_command};
-pub use command_sessions::{AuthRef, take_authorization};
+pub use command_parts::{AuthRef, NO_SESSIONS, SESSIONS, tag_for, take_authorization};
 pub use laws::{
     areas_of_a_response, command_or_fault, fault_before_params, no_prefix, no_response_prefix,
     parameters_in_command, response_or_fault,

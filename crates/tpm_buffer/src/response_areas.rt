@@ -12,7 +12,7 @@ ghost use Rattle.tpm_buffer.specs.ResponseAreas.{handle_of, place_of_params, Has
 ghost use Rattle.tpm_buffer.specs.inner.ResponseAreas.{IsPlaceIn, LiesIn, cut_by};
 ghost use Rattle.tpm_commands.specs.Replies.{handle_list};
 
-use crate::command_header::SESSIONS;
+use crate::command_parts::SESSIONS;
 use crate::response_header::{long_fault, take_code, take_front};
 use crate::response_sessions::{ReplyRef, take_parameter_size, take_sessions};
 use arrayvec::ArrayVec;

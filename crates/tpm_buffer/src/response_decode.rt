@@ -14,7 +14,7 @@ ghost use Rattle.tpm_buffer.specs.Responses.{is_response_tag, goes_with, with_se
 ghost use Rattle.tpm_buffer.specs.inner.Responses.{code_or_done};
 ghost use Rattle.tpm_buffer.specs.Responses.{tag_of_response, code_of_response, behind_code, response};
 
-use crate::command_header::SESSIONS;
+use crate::command_parts::SESSIONS;
 use crate::response_header::{long_fault, take_code, take_front};
 use crate::response_sessions::{read_sessions, take_parameter_size};
 use arrayvec::ArrayVec;

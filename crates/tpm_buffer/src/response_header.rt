@@ -7,7 +7,7 @@ ghost use Rattle.tpm_wire.specs.Buffers.{Takes, TakesNumbered};
 ghost use Rattle.tpm_wire.specs.Spelling.{spelling};
 ghost use Rattle.tpm_buffer.specs.Responses.{is_response_tag, goes_with, response_front, response_tag, response_code};
 
-use crate::command_header::{NO_SESSIONS, SESSIONS, take_size};
+use crate::command_parts::{NO_SESSIONS, SESSIONS, take_size};
 use tpm_wire::response_code::{BAD_TAG, COMMAND_SIZE, VALUE};
 use tpm_wire::{Cursor, Refusal, Wire};
 

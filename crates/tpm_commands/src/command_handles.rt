@@ -147,63 +147,6 @@ pub(crate) fn two_handles(first: u32, second: u32) -> ArrayVec<u32, 2>
     numbers
 }
 
-// The handle of a command that has one.
-#[inline(always)]
-fn take_one(
-    cursor: &mut Cursor<'_>,
-    kinds: &[HandleKind],
-    only: HandleKind,
-) -> Result<ArrayVec<u32, 2>, Refusal>
-    requires { kinds.now ≡ only ∷ [] }
-    ensures reads { TakesNumbered (λ v. v.items) (handles_from 1 kinds.now)
-        cursor.old cursor.new result }
-    ensures spelled { IfOk result
-        (λ x. cursor.old.here.rest
-        ≡ spelling (handles_from 1 kinds.now) x.items ++ cursor.new.here.rest) }
-    ensures admitted { IfOk result (λ x. AreAdmitted kinds.now x.items) }
-{
-    let number = only.take(cursor, 1)?;
-    Ok(one_handle(number))
-}
-
-// The handles of a command that has two.
-#[inline(always)]
-fn take_two(
-    cursor: &mut Cursor<'_>,
-    kinds: &[HandleKind],
-    one: HandleKind,
-    two: HandleKind,
-) -> Result<ArrayVec<u32, 2>, Refusal>
-    requires { kinds.now ≡ one ∷ two ∷ [] }
-    ensures reads { TakesNumbered (λ v. v.items) (handles_from 1 kinds.now)
-        cursor.old cursor.new result }
-    ensures spelled { IfOk result
-        (λ x. cursor.old.here.rest
-        ≡ spelling (handles_from 1 kinds.now) x.items ++ cursor.new.here.rest) }
-    ensures admitted { IfOk result (λ x. AreAdmitted kinds.now x.items) }
-{
-    let first = one.take(cursor, 1)?;
-    let second = two.take(cursor, 2)?;
-    Ok(two_handles(first, second))
-}
-
-#[inline(always)]
-fn take_kinds(cursor: &mut Cursor<'_>, kinds: &[HandleKind]) -> Result<ArrayVec<u32, 2>, Refusal>
-    requires { length kinds.now ≤ 2 }
-    ensures reads { TakesNumbered (λ v. v.items) (handles_from 1 kinds.now)
-        cursor.old cursor.new result }
-    ensures spelled { IfOk result
-        (λ x. cursor.old.here.rest
-        ≡ spelling (handles_from 1 kinds.now) x.items ++ cursor.new.here.rest) }
-    ensures admitted { IfOk result (λ x. AreAdmitted kinds.now x.items) }
-{
-    match kinds {
-        [] => Ok(ArrayVec::new()),
-        [only] => take_one(cursor, kinds, *only),
-        [one, two, ..] => take_two(cursor, kinds, *one, *two),
-    }
-}
-
 /// The numbers of the handles that a command with this code has, in their order, each of its kind; or the first
 /// fault: INSUFFICIENT or VALUE with the handle's number (Part 3, the command table of each).
 #[inline(always)]
@@ -215,7 +158,15 @@ pub fn take_handles(cursor: &mut Cursor<'_>, code: CommandCode) -> Result<ArrayV
         ≡ spelling (handles_layout code) x.items ++ cursor.new.here.rest) }
     ensures admitted { IfOk result (λ x. AreAdmitted (handle_kinds_of code) x.items) }
 {
-    take_kinds(cursor, handle_kinds(code))
+    match handle_kinds(code) {
+        [] => Ok(ArrayVec::new()),
+        [only] => Ok(one_handle(only.take(cursor, 1)?)),
+        [one, two, ..] => {
+            let first = one.take(cursor, 1)?;
+            let second = two.take(cursor, 2)?;
+            Ok(two_handles(first, second))
+        }
+    }
 }
 
 fn handle_kinds(code: CommandCode) -> &'static [HandleKind]

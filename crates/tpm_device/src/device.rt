@@ -11,10 +11,9 @@ ghost use Rattle.tpm_device.specs.inner.Performing.{MayBePerformed, IsPerformed}
 ghost use Rattle.tpm_device.specs.inner.Actions.{IsActed};
 ghost use Rattle.tpm_device.specs.inner.Answers.{given, told};
 
-use crate::bare::{bare, selections};
 use crate::checks::{check_started, check_tag};
-use crate::reading::read_params;
-use crate::response::{RESPONSE_BYTES, ResponseBuffer, put_refusal};
+use crate::reading::{bare, read_params, selections};
+use crate::reply::{RESPONSE_BYTES, ResponseBuffer, put_refusal};
 use tpm_buffer::{Areas, header};
 use tpm_commands::{Params, ReplyBody};
 use tpm_nv::Counters;
@@ -204,8 +203,8 @@ impl Device {
     }
 
     // As `performed_by_action`, where the command has a function of its own; and otherwise nothing is done. These
-    // functions are without the room of the longest parameters and that of the longest reply, each for what its file
-    // says. Were all ways the arms of one `match`, the toolchain's compiler would join their frames, to 688 bytes more.
+    // functions are without the room of the longest parameters and that of the longest reply, each for what it says.
+    // Were all ways the arms of one `match`, the toolchain's compiler would join their frames, to 688 bytes more.
     fn performed_alone(
         &mut self,
         areas: &Areas<'_>,
@@ -260,24 +259,6 @@ impl Device {
         }
     }
 
-    // The response: the reply, or the code alone.
-    #[inline(never)]
-    fn answer(&mut self, bytes: &[u8], nonce: &[u8; 64], out: &mut ResponseBuffer)
-        requires empty { length out.old.items ≡ 0 }
-        ensures answer { (o : Origin) (h : History) →
-            Stands o h self.old →
-            out.new.items ≡ answered (outcome_of (holds self.old) bytes.now nonce.now) }
-        ensures stands { (o : Origin) (h : History) →
-            Stands o h self.old →
-            Stands o (with_outcome h nonce.now (outcome_of (holds self.old) bytes.now nonce.now))
-            self.new }
-        ensures refused { 0 < code_in out.new.items → self.new ≡ self.old }
-    {
-        if let Err(code) = self.outcome(bytes, nonce, out) {
-            put_refusal(code, out);
-        }
-    }
-
     /// Answers the bytes of a command, whatever they are, with the bytes of a response. The nonce
     /// is 64 fresh random bytes, of which the next nonceTPM of the command's session is the front.
     ///
@@ -303,6 +284,7 @@ impl Device {
     }
 
     /// As `execute`, into this buffer, whatever is in it. No answer has more bytes than there is room for.
+    #[inline(never)]
     pub fn execute_into(&mut self, bytes: &[u8], nonce: &[u8; 64], out: &mut ResponseBuffer)
         ensures answer { (o : Origin) (h : History) →
             Stands o h self.old →
@@ -314,7 +296,9 @@ impl Device {
         ensures short { length out.new.items ≤ 549 }
     {
         out.clear();
-        self.answer(bytes, nonce, out);
+        if let Err(code) = self.outcome(bytes, nonce, out) {
+            put_refusal(code, out);
+        }
         prove!(out.as_slice().len() <= RESPONSE_BYTES);
     }
 }

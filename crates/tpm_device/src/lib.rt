@@ -2,12 +2,8 @@
 #![tactic(auto)]
 
 mod actions;
-mod asserting;
-mod authorization;
-mod bare;
 mod checks;
 mod device;
-mod extending;
 mod kept;
 mod laws;
 mod nv;
@@ -15,9 +11,7 @@ mod policies;
 mod reading;
 mod registers;
 mod reply;
-mod response;
 mod sessions;
-mod starting;
 
 pub use device::Device;
 pub use kept::changes_nv;
@@ -25,4 +19,4 @@ pub use laws::{
     answers_are_the_run, no_counter_goes_back, no_counter_goes_back_over_lives, no_replay,
     no_replay_over_lives, nv_memory_stays_fair,
 };
-pub use response::{RESPONSE_BYTES, ResponseBuffer};
+pub use reply::{RESPONSE_BYTES, ResponseBuffer};

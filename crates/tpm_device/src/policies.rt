@@ -1,15 +1,47 @@
-//! What the policy commands do (Part 3, 11.2 and 23).
+//! What the policy commands do (Part 3, 11.2 and 23), and TPM2_PolicyPCR from parameters to reply.
 
-ghost use Rattle.std.specs.Prelude.{◌≡◌, ℕ, List, OnOk, OnErr};
+ghost use Rattle.std.specs.Prelude.{◌≡◌, ℕ, List, Ok, Err, IfOk, IfErr, OnOk, OnErr};
 ghost use Rattle.tpm_commands.specs.declared.command.CommandBody.TheVariants as bodies;
 ghost use Rattle.tpm_commands.specs.declared.command.ReplyBody.TheVariants as replies;
 ghost use Rattle.tpm_model.specs.Actions.{action};
 ghost use Rattle.tpm_device.specs.Stands.{holds};
 ghost use Rattle.tpm_device.specs.inner.Actions.{acted, step_of, Steps};
+ghost use Rattle.tpm_wire.specs.declared.refusal.Refusal.{Refusal as Fault};
+ghost use Rattle.tpm_wire.specs.Reading.{read_all};
+ghost use Rattle.tpm_types.specs.declared.command_code.CommandCode.TheVariants as codes;
+ghost use Rattle.tpm_commands.specs.declared.command.Params.TheVariants as of_command;
+ghost use Rattle.tpm_commands.specs.Parameters.{parameters};
+ghost use Rattle.tpm_model.specs.Answers.{performed as performed_of};
+ghost use Rattle.tpm_device.specs.inner.Performing.{MayBePerformed, IsPerformed};
 
 use crate::device::Device;
-use tpm_commands::{PolicyPcr, ReplyBody};
+use crate::reading::read_params;
+use crate::reply::ResponseBuffer;
+use tpm_buffer::Areas;
+use tpm_commands::{Params, PolicyPcr, ReplyBody, first_handle, policy_in};
+use tpm_session::Authorization;
 use tpm_types::{OrDigests, PolicyHandle};
+
+// The digest and the registers that are asserted, or the code of the parameters' first fault.
+#[inline(never)]
+fn asserted_in(areas: &Areas<'_>) -> Result<PolicyPcr, u32>
+    requires { areas.now.header.code ≡ codes.PolicyPcr }
+    ensures read { IfOk result (λ x.
+        read_all (parameters codes.PolicyPcr) areas.now.params
+        ≡ Ok (of_command.PolicyPcr x)) }
+    ensures faulty { IfErr result (λ code. (fault : Fault)
+        × (read_all (parameters codes.PolicyPcr) areas.now.params ≡ Err fault)
+        × (fault.code ≡ code)) }
+{
+    let mut params = Params::PolicyRestart;
+    match read_params(areas, &mut params) {
+        Ok(()) => match params {
+            Params::PolicyPcr(asked) => Ok(asked),
+            _ => unreachable!(),
+        },
+        Err(code) => Err(code),
+    }
+}
 
 impl Device {
     // TPM2_PolicyPCR (Part 3, 23.7).
@@ -121,6 +153,30 @@ impl Device {
             acted body.new result ≡ action (holds self.now) (bodies.PolicyGetDigest session) n }
     {
         *body = ReplyBody::PolicyGetDigest(self.sessions.policy_digest(session)?);
+        Ok(())
+    }
+
+    /// As `performed_by_action`, where the command is TPM2_PolicyPCR. The room of neither its parameters nor its reply
+    /// is on the stack while the registers are hashed: by the common way the deepest stack by LLVM is 360 bytes more.
+    #[inline(never)]
+    pub(crate) fn performed_asserting(
+        &mut self,
+        areas: &Areas<'_>,
+        by: &Option<Authorization<'_, '_>>,
+        nonce: &[u8; 64],
+        out: &mut ResponseBuffer,
+    ) -> Result<(), u32>
+        requires asserts { areas.now.header.code ≡ codes.PolicyPcr }
+        requires ready { MayBePerformed self.old areas.now by.now out.old }
+        ensures { IsPerformed areas.now (performed_of (holds self.old) nonce.now)
+            (record { device = self.old; nonce = nonce.now; out = out.old })
+            (record { result = result; device = self.new; out = out.new }) }
+    {
+        let asserted = asserted_in(areas)?;
+        let session = policy_in(first_handle(areas.handles()));
+        self.policy_pcr(session, &asserted)?;
+        self.put_bare(areas, by, nonce, out);
+        self.roll(by, nonce);
         Ok(())
     }
 }

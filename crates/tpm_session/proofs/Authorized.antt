@@ -17,9 +17,7 @@ use Rattle.tpm_model.specs.Authorization.Evidence.{ByMac}
 use Rattle.tpm_model.specs.Authorization.{Authorizer, Evidence, by_session, check_loaded, check_session, check_entity}
 use Rattle.tpm_model.specs.Authorization.{check_evidence, evidence_by, evidence_of, key_for, authorize, reply_auths}
 use Rattle.tpm_model.specs.Authorization.{password_reply, Signed}
-use Rattle.tpm_session.specs.declared.authorize.Authority.TheVariants as authorities
-use Rattle.tpm_session.specs.declared.authorize.Authority.{Authority}
-use Rattle.tpm_session.specs.Entities.{IsAuthority, with_session, Claim, authorized as authorized_by}
+use Rattle.tpm_session.specs.Entities.{IsNamed, with_session, Claim, authorized as authorized_by}
 
 -- ---- the evidence of a command that is authorized
 
@@ -50,17 +48,17 @@ in_its_slot : (handle : ℕ) (s : Option Session) → IsSome (if_of_kind handle 
 in_its_slot handle None some = refl
 in_its_slot handle (Some s) some = kept (is_handle_of handle s) s some
 
--- The session in an authority's slot is the one that the handle names.
-named_in_slot : (sessions : List (Option Session)) (handle slot : ℕ) → IsAuthority sessions handle (authorities.Slot slot)
+-- The session in the slot is the one that the handle names.
+named_in_slot : (sessions : List (Option Session)) (handle slot : ℕ) → IsNamed sessions handle (Some slot)
     → by_session (session_in sessions slot) ≡ check_loaded handle (loaded sessions handle)
 named_in_slot sessions handle slot is =
     rw (is.0, is.1) (ap by_session (in_its_slot handle (session_in sessions (slot_of handle)) is.2))
 
 -- Who authorizes is who the handle names.
-pub named : (sessions : List (Option Session)) (handle : ℕ) (by : Authority) → IsAuthority sessions handle by
-    → with_session sessions by ≡ check_loaded handle (loaded sessions handle)
-named sessions handle authorities.Password is = rw is refl
-named sessions handle (authorities.Slot slot) is = named_in_slot sessions handle slot is
+pub named : (sessions : List (Option Session)) (handle : ℕ) (slot : Option ℕ) → IsNamed sessions handle slot
+    → with_session sessions slot ≡ check_loaded handle (loaded sessions handle)
+named sessions handle None is = rw is refl
+named sessions handle (Some slot) is = named_in_slot sessions handle slot is
 
 checks_in_turn : (first second : Result (Unit {0}) ℕ) (x : Evidence) (last : Evidence → Result (Unit {0}) ℕ) →
     ((first >>= λ _. (second >>= λ _. Ok x)) >>= last) ≡ ((first >>= λ _. second) >>= λ _. last x)

@@ -8,11 +8,9 @@ use Rattle.tpm_types.specs.Handles.{rs_pw}
 use Rattle.tpm_model.specs.Sessions.{Session, loaded, session_in, slot_of}
 use Rattle.tpm_model.specs.Entities as model
 use Rattle.tpm_model.specs.Authorization as authorization
-use Rattle.tpm_session.specs.declared.entity.Entity.{Entity}
-use Rattle.tpm_session.specs.declared.authorize.Authority.{Authority}
+use Rattle.tpm_session.specs.declared.evidence.Entity.{Entity}
 use Rattle.tpm_session.specs.declared.authorize.Authorization.{Authorization}
-use Rattle.tpm_session.specs.declared.authorize.Authority.TheVariants as authorities
-use Rattle.tpm_session.specs.declared.entity.Entity.TheVariants as entities
+use Rattle.tpm_session.specs.declared.evidence.Entity.TheVariants as entities
 
 abbrev pub entity_in : Entity → model.Entity
 entity_in entities.Register = model.Entity.Register
@@ -20,10 +18,10 @@ entity_in entities.Null = model.Entity.Null
 entity_in (entities.Owner auth) = model.Entity.Owner auth.now
 entity_in (entities.Index index) = model.Entity.Index index.now.public index.now.auth
 
--- Who authorizes is who a handle names among these sessions: the password, or the session that is loaded in its slot.
-abbrev pub IsAuthority : List (Option Session) → (handle : ℕ) → Authority → Type 0
-IsAuthority sessions handle authorities.Password = (handle == rs_pw) ≡ true
-IsAuthority sessions handle (authorities.Slot slot) =
+-- A handle names the password, or the session that is loaded in its slot, among these.
+abbrev pub IsNamed : List (Option Session) → (handle : ℕ) → (slot : Option ℕ) → Type 0
+IsNamed sessions handle None = (handle == rs_pw) ≡ true
+IsNamed sessions handle (Some slot) =
     ((handle == rs_pw) ≡ false) × (slot ≡ slot_of handle) × IsSome (loaded sessions handle)
 
 -- A command with these sessions is authorized so: by the first of them, and by who that names among those that are
@@ -32,7 +30,7 @@ pub record Authorizes (sessions : List (Option Session)) (auths : List Auth) (a 
   pub others : List Auth
   pub are : auths ≡ a.first.now ∷ others
   pub count : a.count ≡ suc (length others)
-  pub by : IsAuthority sessions a.first.now.session a.by
+  pub by : IsNamed sessions a.first.now.session a.slot
 
 -- It is authorized so, or has no session.
 abbrev pub IsAuthorization : List (Option Session) → List Auth → Option Authorization → Type 0
@@ -40,9 +38,9 @@ IsAuthorization sessions auths None = auths ≡ []
 IsAuthorization sessions auths (Some a) = Authorizes sessions auths a
 
 -- who that is, with the session as it is among these
-abbrev pub with_session : List (Option Session) → Authority → Result authorization.Authorizer ℕ
-with_session sessions authorities.Password = Ok authorization.Authorizer.Password
-with_session sessions (authorities.Slot slot) = authorization.by_session (session_in sessions slot)
+abbrev pub with_session : List (Option Session) → (slot : Option ℕ) → Result authorization.Authorizer ℕ
+with_session sessions None = Ok authorization.Authorizer.Password
+with_session sessions (Some slot) = authorization.by_session (session_in sessions slot)
 
 -- A command by what its authorization is judged, beside its sessions: what its first handle names, its code, the Names
 -- of its handles and its parameters as they came, and the present update counter.

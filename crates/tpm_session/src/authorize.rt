@@ -5,40 +5,29 @@ ghost use Rattle.std.specs.Prelude.{◌≡◌, ◌<◌, suc, List, ◌∷◌, []
 ghost use Rattle.std.specs.Prelude.{MatchResult};
 ghost use Rattle.tpm_types.specs.declared.tpms.Auth.{Auth};
 ghost use Rattle.tpm_model.specs.Entities.{auth_value, is_owner_entity};
-ghost use Rattle.tpm_model.specs.Sessions.{loaded};
-ghost use Rattle.tpm_model.specs.Authorization.{Evidence, check_loaded as loaded_checked, access_of};
+ghost use Rattle.tpm_model.specs.Authorization.{Evidence, access_of};
 ghost use Rattle.tpm_model.specs.Authorization.{allows_auth as auth_allowed, allows_policy as policy_allowed};
-ghost use Rattle.tpm_model.specs.Authorization.{check_session as session_checked, check_auth as auth_checked};
+ghost use Rattle.tpm_model.specs.Authorization.{check_session as session_checked};
 ghost use Rattle.tpm_model.specs.Authorization.{check_policy_allowed as allowed_checked, has_policy as policy_held};
 ghost use Rattle.tpm_model.specs.Authorization.{check_policy as policy_checked, check_entity as entity_checked};
 ghost use Rattle.tpm_model.specs.Authorization.{reply_auths};
 ghost use Rattle.tpm_session.specs.Entities.{entity_in, no_reply as no_reply_of, Claim as ClaimOf};
-ghost use Rattle.tpm_session.specs.Entities.{IsAuthority, Authorizes, IsAuthorization};
+ghost use Rattle.tpm_session.specs.Entities.{Authorizes, IsAuthorization};
 ghost use Rattle.tpm_session.specs.Entities.{evidence_of, authorized, with_session};
 ghost use Rattle.tpm_session.specs.inner.Signing.{authorizer_in};
 
-use crate::entity::Entity;
-use crate::evidence::{Answered, Signed, check_evidence, no_reply, password_reply};
+use crate::evidence::{Answered, Entity, Signed, check_evidence, no_reply, password_reply};
 use crate::policy::differs;
 use crate::session::Session;
 use crate::sessions::{Sessions, slot_of};
 use std::marker::Model;
 use tpm_buffer::AuthRef;
 use tpm_hmac::same;
-use tpm_types::{AuthReply, CommandCode, Name, NvAttrs, RS_PW, SessionHandle, SessionType};
+use tpm_types::{AuthReply, CommandCode, Name, NvAttrs, SessionHandle, SessionType};
 use tpm_wire::response_code::{
     ATTRIBUTES, AUTH_UNAVAILABLE, NONCE, PCR_CHANGED, POLICY_CC, POLICY_FAIL, REFERENCE_S0,
     of_session,
 };
-
-/// Who authorizes a command, as its first session names it.
-#[derive(Clone, Copy, Debug, PartialEq, Eq)]
-pub enum Authority {
-    /// The password.
-    Password,
-    /// The session that is loaded in this slot, counted from 0.
-    Slot(usize),
-}
 
 /// How a command is authorized: by its first session, and by who that names. `Sessions::authorization` finds it.
 #[derive(Clone, Copy)]
@@ -47,8 +36,8 @@ pub struct Authorization<'a, 'b> {
     pub first: &'a AuthRef<'b>,
     /// How many sessions there are.
     pub count: usize,
-    /// Who the first names.
-    pub by: Authority,
+    /// The slot of the session that the first names, counted from 0; or none for the password.
+    pub slot: Option<usize>,
 }
 
 /// A command by what its authorization is judged, beside its sessions.
@@ -130,16 +119,6 @@ fn allows_policy(attrs: NvAttrs, command: CommandCode) -> bool
     }
 }
 
-// AUTH_UNAVAILABLE for an index whose authorization value does not serve for the command.
-fn check_auth(entity: &Entity<'_>, command: CommandCode) -> Result<(), u32>
-    ensures { result ≡ auth_checked (entity_in entity.now) command }
-{
-    match entity {
-        Entity::Index(index) if !allows_auth(index.attrs(), command) => Err(AUTH_UNAVAILABLE),
-        Entity::Register | Entity::Null | Entity::Owner(_) | Entity::Index(_) => Ok(()),
-    }
-}
-
 // AUTH_UNAVAILABLE for anything but an index whose policy serves for the command.
 fn check_policy_allowed(entity: &Entity<'_>, command: CommandCode) -> Result<(), u32>
     ensures { result ≡ allowed_checked (entity_in entity.now) command }
@@ -185,42 +164,25 @@ impl Session {
     }
 }
 
-// Whether the entity lets itself be used so, and a policy is met.
+// Whether the entity lets itself be used so, and a policy is met: AUTH_UNAVAILABLE for an index whose authorization
+// value does not serve for the command.
 fn check_entity(by: Option<&Session>, claim: &Claim<'_>) -> Result<(), u32>
     ensures { result ≡
         entity_checked (authorizer_in (option_map (λ s. s.now) by.entry)) claim.now.entity
         claim.now.command claim.now.update_counter }
 {
-    match by {
-        None => check_auth(&claim.entity, claim.command),
-        Some(session) => match session.session_type {
-            SessionType::Hmac => check_auth(&claim.entity, claim.command),
-            SessionType::Policy | SessionType::Trial => session.check_policy(claim),
-        },
+    if let Some(session) = by {
+        if session.session_type != SessionType::Hmac {
+            return session.check_policy(claim);
+        }
+    }
+    match &claim.entity {
+        Entity::Index(index) if !allows_auth(index.attrs(), claim.command) => Err(AUTH_UNAVAILABLE),
+        Entity::Register | Entity::Null | Entity::Owner(_) | Entity::Index(_) => Ok(()),
     }
 }
 
 impl Sessions {
-    // Who a session of a command names: the password, or the session that is loaded; else REFERENCE_S0.
-    fn authority(&self, auth: &AuthRef<'_>) -> Result<Authority, u32>
-        ensures found { IfOk result (IsAuthority self.now auth.now.session) }
-        ensures missing { IfErr result (λ code.
-            loaded_checked auth.now.session (loaded self.now auth.now.session) ≡ Err code) }
-    {
-        let number = auth.session().number();
-        if number == RS_PW {
-            return Ok(Authority::Password);
-        }
-        let Some(session) = SessionHandle::from_number(number) else {
-            unreachable!()
-        };
-        let slot = slot_of(session);
-        match self.in_slot(slot) {
-            Some(found) if found.has_handle(session) => Ok(Authority::Slot(slot)),
-            _ => Err(REFERENCE_S0),
-        }
-    }
-
     /// How a command with these sessions is authorized, where it has any: by who the first of them names, the password,
     /// or the session that is loaded; else REFERENCE_S0 (Part 1, "Authorizations and Acknowledgments").
     #[tactic(auto, using(crate::proofs::Authorized::unnamed))]
@@ -232,29 +194,32 @@ impl Sessions {
         ensures missing { IfErr result (λ code.
             (claim : ClaimOf) → authorized self.now claim auths.now ≡ Err code) }
     {
-        match auths {
-            [] => Ok(None),
-            [first, ..] => {
-                let by = self.authority(first)?;
-                Ok(Some(Authorization {
-                    first,
-                    count: auths.len(),
-                    by,
-                }))
-            }
-        }
+        let [first, ..] = auths else {
+            return Ok(None);
+        };
+        // What is no session's handle is the password.
+        let slot = match SessionHandle::from_number(first.session().number()) {
+            Some(session) if self.get(session).is_none() => return Err(REFERENCE_S0),
+            Some(session) => Some(slot_of(session)),
+            None => None,
+        };
+        Ok(Some(Authorization {
+            first,
+            count: auths.len(),
+            slot,
+        }))
     }
 
-    // The authority's session, none for a password; or REFERENCE_S0 where there is none any more in its slot.
-    fn session_of(&self, by: Authority) -> Result<Option<&Session>, u32>
+    // The session in this slot, where a command is authorized by one; or REFERENCE_S0 where there is none any more.
+    fn session_of(&self, slot: Option<usize>) -> Result<Option<&Session>, u32>
         ensures { MatchResult result
-            (λ session. with_session self.now by
+            (λ session. with_session self.now slot
             ≡ Ok (authorizer_in (option_map (λ s. s.now) session)))
-            (λ code. with_session self.now by ≡ Err code) }
+            (λ code. with_session self.now slot ≡ Err code) }
     {
-        match by {
-            Authority::Password => Ok(None),
-            Authority::Slot(slot) => match self.in_slot(slot) {
+        match slot {
+            None => Ok(None),
+            Some(slot) => match self.in_slot(slot) {
                 Some(session) => Ok(Some(session)),
                 None => Err(REFERENCE_S0),
             },
@@ -290,7 +255,7 @@ impl Sessions {
             Authorizes self.now auths how.now →
             result ≡ authorized self.now claim.now auths }
     {
-        let by = self.session_of(how.by)?;
+        let by = self.session_of(how.slot)?;
         check_session(by, how.first, how.count)?;
         check_entity(by, claim)?;
         check_evidence(by, self.hashed(), how.first, claim)
@@ -316,9 +281,9 @@ impl Sessions {
             evidence_of self.now claim auths ≡ Ok x →
             reply_auths x answered.now.command answered.now.params.now answered.now.nonce.now
             ≡ result ∷ [] }
-        ensures unloaded { IsErr (with_session self.now how.now.by) → result ≡ no_reply_of }
+        ensures unloaded { IsErr (with_session self.now how.now.slot) → result ≡ no_reply_of }
     {
-        match self.session_of(how.by) {
+        match self.session_of(how.slot) {
             Ok(Some(session)) => {
                 let signed = Signed {
                     session,

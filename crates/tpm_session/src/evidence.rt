@@ -1,24 +1,58 @@
-//! The evidence that a command is authorized, a password or an HMAC, and the session of its reply
+//! What authorizes a command, the evidence that it does, a password or an HMAC, and the session of the reply
 //! (Part 1, "HMAC Computation" and "Password Authorizations").
 
 ghost use Rattle.std.specs.Prelude.{◌≡◌, ◌&&◌, ℕ, List, [], ◌∷◌, option_map};
 ghost use Rattle.tpm_types.specs.CommandCodes.{code_number};
 ghost use Rattle.tpm_hmac.specs.Hmac.{hmac};
 ghost use Rattle.tpm_hmac.specs.Sessions.{mac_text, whole_key, cp_hash as cp_hash_of, trim as trim_of};
+ghost use Rattle.tpm_model.specs.Entities.{auth_value, is_owner_entity};
 ghost use Rattle.tpm_model.specs.Authorization.{follows, is_empty, needs_none, is_signed};
 ghost use Rattle.tpm_model.specs.Authorization.{failure as failure_of, Evidence, evidence_by};
-ghost use Rattle.tpm_model.specs.Authorization.{check_evidence as evidence_checked, nonce_next, reply_auths};
+ghost use Rattle.tpm_model.specs.Authorization.{check_evidence as evidence_checked, reply_auths};
 ghost use Rattle.tpm_model.specs.Authorization.{password_reply as password_reply_of};
 ghost use Rattle.tpm_session.specs.Entities.{entity_in, no_reply as no_reply_of};
-ghost use Rattle.tpm_session.specs.inner.Signing.{authorizer_in, signed_in, reply_hmac};
+ghost use Rattle.tpm_session.specs.inner.Signing.{authorizer_in, signed_in};
 
 use crate::authorize::Claim;
-use crate::entity::Entity;
 use crate::session::{NONCE_BYTES, Session};
 use tpm_buffer::AuthRef;
 use tpm_hmac::{SessionKey, command_mac, cp_hash, rp_hash, same, trim};
+use tpm_nv::Definition;
 use tpm_types::{AuthReply, AuthValue, CommandCode, Digest, Nonce, SessionAttrs, SessionType};
 use tpm_wire::response_code::{AUTH_FAIL, BAD_AUTH, of_session};
+
+/// What the first handle of a command names, whose authorization the command needs. Authorization
+/// values may have trailing zeros, which are no part of them (Part 1, "Authorization Values").
+#[derive(Clone, Copy)]
+pub enum Entity<'a> {
+    /// A register: its authorization value is empty.
+    Register,
+    /// TPM_RH_NULL: its authorization value is empty.
+    Null,
+    /// The owner, with this authorization value.
+    Owner(&'a [u8]),
+    /// An NV index, with its public area as it is now, and its authorization value.
+    Index(&'a Definition),
+}
+
+impl<'a> Entity<'a> {
+    pub(crate) fn is_owner(&self) -> bool
+        ensures { result ≡ is_owner_entity (entity_in self.now) }
+    {
+        matches!(self, Entity::Owner(_))
+    }
+
+    // Its authorization value, without trailing zeros.
+    pub(crate) fn auth_value(&self) -> &'a [u8]
+        ensures { result.now ≡ auth_value (entity_in self.now) }
+    {
+        match self {
+            Entity::Register | Entity::Null => &[],
+            Entity::Owner(auth) => trim(auth),
+            Entity::Index(index) => trim(index.auth()),
+        }
+    }
+}
 
 impl Session {
     /// What follows the session key in the key of its HMACs, where it authorizes a command of this
@@ -36,17 +70,6 @@ impl Session {
             entity.auth_value()
         } else {
             &[]
-        }
-    }
-
-    // Its next nonce: the first of these bytes.
-    fn next_nonce(&self, nonce: &[u8; NONCE_BYTES]) -> Nonce
-        ensures { result ≡ nonce_next self.now nonce.now }
-    {
-        let len = self.nonce.as_slice().len();
-        match Nonce::new(&nonce[..len]) {
-            Some(nonce) => nonce,
-            None => unreachable!(),
         }
     }
 }
@@ -134,28 +157,23 @@ impl Signed<'_> {
         same(self.auth.hmac(), mac.as_slice())
     }
 
-    // The HMAC of a reply that has this nonce, or none.
-    fn reply_mac(&self, answered: &Answered<'_>, nonce: &[u8]) -> AuthValue
-        ensures { result ≡
-            reply_hmac (signed_in self.now []) answered.now.command answered.now.params.now nonce.now }
-    {
-        if self.needs_none() {
-            return AuthValue::default();
-        }
-        let session = self.session;
-        let p_hash = rp_hash(session.hash, answered.command, answered.params);
-        self.mac(p_hash.as_slice(), nonce, self.auth.nonce())
-    }
-
-    /// The session's part of the reply to the command that it authorized.
+    /// The session's part of the reply to the command that it authorized: its HMAC, or none.
     pub(crate) fn reply(&self, answered: &Answered<'_>) -> AuthReply
         ensures { (p_hash : List ℕ) →
             reply_auths (Evidence.ByMac (signed_in self.now p_hash)) answered.now.command
             answered.now.params.now answered.now.nonce.now
             ≡ result ∷ [] }
     {
-        let nonce = self.session.next_nonce(answered.nonce);
-        let hmac = self.reply_mac(answered, nonce.as_slice());
+        let session = self.session;
+        let Some(nonce) = Nonce::new(&answered.nonce[..session.nonce.as_slice().len()]) else {
+            unreachable!()
+        };
+        let hmac = if self.needs_none() {
+            AuthValue::default()
+        } else {
+            let p_hash = rp_hash(session.hash, answered.command, answered.params);
+            self.mac(p_hash.as_slice(), nonce.as_slice(), self.auth.nonce())
+        };
         AuthReply {
             nonce,
             attrs: self.auth.attrs(),

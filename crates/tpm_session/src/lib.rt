@@ -2,15 +2,13 @@
 #![tactic(auto)]
 
 mod authorize;
-mod entity;
 mod evidence;
 mod policy;
 mod session;
 mod sessions;
 
-pub use authorize::{Authority, Authorization, Claim};
-pub use entity::Entity;
-pub use evidence::{Answered, password_reply};
-pub use policy::{Assertion, empty_policy, extend_policy};
-pub use session::{NONCE_BYTES, Session};
+pub use authorize::{Authorization, Claim};
+pub use evidence::{Answered, Entity, password_reply};
+pub use policy::{Assertion, extend_policy};
+pub use session::{NONCE_BYTES, Session, empty_policy};
 pub use sessions::Sessions;

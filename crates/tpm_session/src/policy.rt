@@ -4,18 +4,17 @@ ghost use Rattle.std.specs.Prelude.{◌≡◌, ◌+◌, ◌≤◌, [], ◌++◌,
 ghost use Rattle.tpm_wire.specs.Spelling.{spelling};
 ghost use Rattle.tpm_types.specs.Tpml.{selections as selections_layout};
 ghost use Rattle.tpm_model.specs.Policies.Assertion.{PcrAsserted, OrAsserted};
-ghost use Rattle.tpm_model.specs.Policies.{asserted, policy_of, policy_digest};
+ghost use Rattle.tpm_model.specs.Policies.{asserted};
 ghost use Rattle.tpm_model.specs.Actions.{is_listed as listed};
 ghost use Rattle.tpm_model.specs.Authorization.{differs as is_another};
 ghost use Rattle.tpm_session.specs.Policies.{as_assertion};
 ghost use Rattle.tpm_session.specs.inner.Asserting.{policy_after};
 
+use crate::session::{Policy, empty_policy};
 use arrayvec::ArrayVec;
-use std::marker::Model;
 use tpm_hmac::hash;
 use tpm_types::{
-    Alg, BANKS, CommandCode, DIGEST_BYTES, Digest, MOST_DIGESTS, OrDigests, Packed, SELECT_BYTES,
-    Selections,
+    Alg, BANKS, CommandCode, Digest, MOST_DIGESTS, OrDigests, SELECT_BYTES, Selections,
 };
 use tpm_wire::Wire;
 
@@ -27,28 +26,6 @@ const SELECTION_BYTES: usize = 2 + 1 + SELECT_BYTES;
 
 // How many bytes a list of selections has at most: their number, and one for each bank.
 const SELECTIONS_BYTES: usize = 4 + BANKS * SELECTION_BYTES;
-
-/// What a policy session holds of its assertions.
-#[derive(Drop)]
-pub(crate) struct Policy {
-    pub(crate) digest: Packed<DIGEST_BYTES>,
-    pub(crate) auth_value: bool,
-    pub(crate) code: Option<u32>,
-    pub(crate) update_counter: Option<u32>,
-}
-
-impl Model for Policy {
-    ghost use Rattle.tpm_model.specs.Policies as model;
-
-    ghost Value = { model.Policy };
-
-    ghost view = { λ p. record {
-      digest = p.digest;
-      code = p.code;
-      update_counter = p.update_counter;
-      auth_value = p.auth_value;
-    } };
-}
 
 /// What a policy command asserts.
 #[derive(Drop)]
@@ -69,18 +46,6 @@ pub enum Assertion<'a> {
 }
 
 impl Policy {
-    /// Nothing is asserted.
-    pub(crate) fn new(alg: Alg) -> Self
-        ensures { result ≡ policy_of alg [] }
-    {
-        Policy {
-            digest: Packed::new(empty_policy(alg).as_slice()),
-            code: None,
-            update_counter: None,
-            auth_value: false,
-        }
-    }
-
     /// This is asserted too, in a session of this hash.
     pub(crate) fn assert(&mut self, alg: Alg, assertion: &Assertion<'_>)
         ensures { self.new ≡ policy_after alg (as_assertion assertion.now) self.old }
@@ -95,17 +60,6 @@ impl Policy {
             Assertion::Code(code) => self.code = Some(*code),
             Assertion::AuthValue => self.auth_value = true,
         }
-    }
-}
-
-/// The digest of a policy that asserts nothing, in this hash: as many zeros as its digests have
-/// (Part 3, 23.1 and 11.2).
-pub fn empty_policy(alg: Alg) -> Digest
-    ensures { result ≡ policy_digest alg [] }
-{
-    match Digest::new(&[0; DIGEST_BYTES][..alg.digest_len()]) {
-        Some(digest) => digest,
-        None => unreachable!(),
     }
 }
 

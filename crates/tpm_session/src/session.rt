@@ -1,10 +1,11 @@
-//! One session, as it is held.
+//! One session, as it is held, and its policy.
 
 ghost use Rattle.std.specs.Prelude.{◌≡◌, ◌≤◌, [], length};
 ghost use Rattle.tpm_types.specs.Handles.{kind_of};
 ghost use Rattle.tpm_types.specs.declared.handle_sets.BindHandle.TheVariants as binds;
 ghost use Rattle.tpm_hmac.specs.Sessions.{trim as trim_of};
 ghost use Rattle.tpm_model.specs.Steps.{Origin};
+ghost use Rattle.tpm_model.specs.Policies.{policy_of, policy_digest};
 ghost use Rattle.tpm_pcr.specs.Registers.{Registers, value_in, composite as composite_of};
 ghost use Rattle.tpm_model.specs.Sessions.{is_handle_of, is_trial as is_trial_type, pcr_assertion, nonce_from};
 ghost use Rattle.tpm_model.specs.Sessions.{as_session};
@@ -12,7 +13,7 @@ ghost use Rattle.tpm_model.specs.Actions.{check_policy_pcr, check_policy_or, che
 ghost use Rattle.tpm_session.specs.Policies.{as_assertion};
 ghost use Rattle.tpm_session.specs.inner.Asserting.{rolled, asserting, restarted};
 
-use crate::policy::{Assertion, Policy, differs, is_listed};
+use crate::policy::{Assertion, differs, is_listed};
 use std::marker::Model;
 use tpm_commands::StartAuth;
 use tpm_hmac::{SessionKey, session_key};
@@ -24,6 +25,53 @@ use tpm_wire::response_code::{PCR_CHANGED, VALUE, of_parameter};
 
 /// How many bytes are handed in for a nonce.
 pub const NONCE_BYTES: usize = 64;
+
+/// What a policy session holds of its assertions.
+#[derive(Drop)]
+pub(crate) struct Policy {
+    pub(crate) digest: Packed<DIGEST_BYTES>,
+    pub(crate) auth_value: bool,
+    pub(crate) code: Option<u32>,
+    pub(crate) update_counter: Option<u32>,
+}
+
+impl Model for Policy {
+    ghost use Rattle.tpm_model.specs.Policies as model;
+
+    ghost Value = { model.Policy };
+
+    ghost view = { λ p. record {
+      digest = p.digest;
+      code = p.code;
+      update_counter = p.update_counter;
+      auth_value = p.auth_value;
+    } };
+}
+
+impl Policy {
+    /// Nothing is asserted.
+    pub(crate) fn new(alg: Alg) -> Self
+        ensures { result ≡ policy_of alg [] }
+    {
+        Policy {
+            digest: Packed::new(empty_policy(alg).as_slice()),
+            code: None,
+            update_counter: None,
+            auth_value: false,
+        }
+    }
+}
+
+/// The digest of a policy that asserts nothing, in this hash: as many zeros as its digests have
+/// (Part 3, 23.1 and 11.2).
+pub fn empty_policy(alg: Alg) -> Digest
+    ensures { result ≡ policy_digest alg [] }
+{
+    match Digest::new(&[0; DIGEST_BYTES][..alg.digest_len()]) {
+        Some(digest) => digest,
+        None => unreachable!(),
+    }
+}
 
 /// A session that is loaded.
 #[derive(Drop)]

@@ -23,7 +23,7 @@ ghost use Rattle.tpm_session.specs.Entities.{Authorizes};
 ghost use Rattle.tpm_session.specs.Policies.{for_policy, as_assertion};
 ghost use Rattle.tpm_session.specs.inner.Asserting.{after_command, asserting, restarted, with_slot};
 
-use crate::authorize::{Authority, Authorization};
+use crate::authorize::Authorization;
 use crate::policy::Assertion;
 use crate::session::{NONCE_BYTES, Session, first_of};
 use std::marker::Model;
@@ -212,11 +212,11 @@ impl Sessions {
             self.new ≡ sessions_at o (Accepted c r nonce.now ∷ h) }
     {
         let keep = how.first.attrs().continues();
-        match how.by {
-            Authority::Slot(slot) if slot < SLOTS => {
+        match how.slot {
+            Some(slot) if slot < SLOTS => {
                 roll(&mut self.slots[slot], nonce, keep, &mut self.hashed)
             }
-            Authority::Slot(_) | Authority::Password => {}
+            _ => {}
         }
     }
 

@@ -1,7 +1,5 @@
 -- What the readers of a command's areas hand on.
-use Rattle.std.specs.Prelude.{◌≡◌, ℕ, ◌<◌, List, length, Result, Ok, Err}
-use Rattle.tpm_wire.specs.declared.refusal.Refusal.{Refusal}
-use Rattle.tpm_wire.specs.ResponseCodes.{rc_authsize}
+use Rattle.std.specs.Prelude.{ℕ, List}
 use Rattle.tpm_wire.specs.Token.{Here}
 use Rattle.tpm_types.specs.declared.tpms.Auth.{Auth}
 use Rattle.tpm_commands.specs.declared.command.Header.{Header}
@@ -14,8 +12,3 @@ areas_view c = (checked c, params_here c)
 -- the cut at a place, by what was read before it
 abbrev pub cut_of : Header → List ℕ → List Auth → Here → Cut
 cut_of h hs auths here = record { header = h; handles = hs; auths = auths; params = here.rest; params_at = here.at }
-
--- The authorization area ends at the old place, and what comes after it is next.
-abbrev pub LeavesAuthorization : Here → Here → Here → Result (Unit {0}) Refusal → Type 0
-LeavesAuthorization behind old new (Ok x) = (length old.rest ≡ 0) × (new ≡ behind)
-LeavesAuthorization behind old new (Err e) = (0 < length old.rest) × (e ≡ record { code = rc_authsize; at = old.at })

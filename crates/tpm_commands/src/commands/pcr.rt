@@ -28,7 +28,8 @@ pub fn read_pcr_extend(cursor: &mut Cursor<'_>, digests: &mut DigestValues) -> R
         (cursor.old.here.rest
         ≡ spelling pcr_extend (params.PcrExtend digests.new) ++ cursor.new.here.rest) }
 {
-    read_only(cursor, digests)
+    cursor.number(of_parameter(1));
+    digests.read(cursor)
 }
 
 // ---- TPM2_PCR_Event (22.3)

@@ -1,8 +1,6 @@
 -- Who authorizes a command, and what the HMACs of a session are made of.
-use Rattle.std.specs.Prelude.{ℕ, List, [], Option, None, Some, if◌then◌else◌}
+use Rattle.std.specs.Prelude.{ℕ, List, Option, None, Some}
 use Rattle.tpm_model.specs.Sessions.{Session}
-use Rattle.tpm_types.specs.declared.command_code.CommandCode.{CommandCode}
-use Rattle.tpm_hmac.specs.Hmac.{hmac}
 use Rattle.tpm_hmac.specs.Sessions.{whole_key}
 use Rattle.tpm_model.specs.Authorization as authorization
 use Rattle.tpm_session.specs.declared.evidence.Signed.{Signed}
@@ -20,9 +18,3 @@ signed_in x p_hash = record {
   p_hash = p_hash;
   auth = x.auth.now;
 }
-
--- The HMAC of the reply with this nonce, or none.
-abbrev pub reply_hmac : authorization.Signed → CommandCode → (params newer : List ℕ) → List ℕ
-reply_hmac x code params newer =
-    if authorization.needs_none x then []
-    else hmac x.session.hash x.key (authorization.reply_text x.session.hash code params newer x.auth.nonce x.auth.attrs)

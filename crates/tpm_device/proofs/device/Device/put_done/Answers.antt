@@ -1,6 +1,7 @@
-use Rattle.std.proofs.Common.{List, sym, ap, ◌∙◌}
+use Rattle.std.proofs.Common.{ℕ, List, sym, ap, ◌∙◌}
 use Rattle.tpm_types.specs.declared.tpms.AuthReply.{AuthReply}
 use Rattle.tpm_model.specs.Answers.{reply_params}
+use Rattle.tpm_model.specs.Authorization.{reply_auths}
 use Rattle.tpm_model.specs.Premises.{code_in}
 use Rattle.tpm_device.specs.inner.Answers.{reply_bytes}
 use Rattle.tpm_device.proofs.Checked.{none_replied, password_replies}
@@ -16,20 +17,23 @@ returns-in-None-clause-bytes c = λ p e alike gives.
 pub returns-in-None-clause-done : goal.returns-in-None-clause-done
 returns-in-None-clause-done c = ap code_in c.put_reply.ensures ∙ reply_is_done c.args.body.now _
 
-pub returns-in-Password-clause-bytes : goal.returns-in-Password-clause-bytes
-returns-in-Password-clause-bytes c = λ p e alike gives.
+pub returns-in-None-slot-clause-bytes : goal.returns-in-None-slot-clause-bytes
+returns-in-None-slot-clause-bytes c = λ p e alike gives.
     let own = rw c.in-Some.is at c.requires.own in
     c.put_passed.ensures ∙ ap (λ (auths : List AuthReply). reply_bytes (record { body = c.args.body.now; auths = auths }))
     (sym (password_replies p c.args.areas.now c.in-Some.how.first.now own.others e c.args.areas.now.header.code (reply_params c.args.body.now)
-    c.args.nonce.now (rw c.in-Password.is at own.by) own.are gives))
+    c.args.nonce.now (rw c.in-None-slot.is at own.by) own.are gives))
 
-pub returns-in-Password-clause-done : goal.returns-in-Password-clause-done
-returns-in-Password-clause-done c = ap code_in c.put_passed.ensures ∙ reply_is_done c.args.body.now _
+pub returns-in-None-slot-clause-done : goal.returns-in-None-slot-clause-done
+returns-in-None-slot-clause-done c = ap code_in c.put_passed.ensures ∙ reply_is_done c.args.body.now _
 
-pub returns-in-Slot-clause-bytes : goal.returns-in-Slot-clause-bytes
-returns-in-Slot-clause-bytes c = λ p e alike gives.
+pub returns-in-Some-slot-clause-bytes : goal.returns-in-Some-slot-clause-bytes
+returns-in-Some-slot-clause-bytes c = λ p e alike gives.
     let own = rw c.in-Some.is at c.requires.own in
-    c.put_signed.ensures.bytes p e (alike c.in-Some.how.first.now own.others own.are) gives
+    c.put_reply_with.ensures ∙ ap (λ (auths : List AuthReply). reply_bytes (record { body = c.args.body.now; auths = auths }))
+    (sym (ap (λ (params : List ℕ). reply_auths e c.args.areas.now.header.code params c.args.nonce.now)
+    (sym (c.as_slice.ensures.value ∙ c.put_reply_params.ensures))
+    ∙ c.reply_session-session.ensures p e (alike c.in-Some.how.first.now own.others own.are) gives))
 
-pub returns-in-Slot-clause-done : goal.returns-in-Slot-clause-done
-returns-in-Slot-clause-done c = c.put_signed.ensures.done
+pub returns-in-Some-slot-clause-done : goal.returns-in-Some-slot-clause-done
+returns-in-Some-slot-clause-done c = ap code_in c.put_reply_with.ensures ∙ reply_is_done c.args.body.now _

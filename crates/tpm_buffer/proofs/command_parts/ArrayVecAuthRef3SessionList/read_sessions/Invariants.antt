@@ -3,7 +3,7 @@ use Rattle.tpm_wire.specs.ResponseCodes.{of_session}
 use Rattle.tpm_wire.specs.Reading.{read, entries}
 use Rattle.tpm_wire.specs.Spelling.{joined_all}
 use Rattle.tpm_types.specs.Tpms.{auth_command}
-use Rattle.tpm_buffer.proofs.command_sessions.ArrayVecAuthRef3SessionList.read_sessions.Given as goal
+use Rattle.tpm_buffer.proofs.command_parts.ArrayVecAuthRef3SessionList.read_sessions.Given as goal
 
 abbrev pub invariant-loop-self : goal.invariant-loop-self
 invariant-loop-self l = record {

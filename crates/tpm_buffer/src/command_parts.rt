@@ -1,21 +1,97 @@
-//! A command's authorization area (Part 1, "Command/Response Structure"): its sessions.
+//! A command's header and its authorization area, whose sessions are lent (Part 1, "Command/Response Structure").
 
-ghost use Rattle.std.specs.Prelude.{◌≡◌, ◌≢◌, ◌<◌, ◌≤◌, [], ◌++◌, IfOk, OnOk, List, length};
+ghost use Rattle.std.specs.Prelude.{◌≡◌, ◌≢◌, ◌≤◌, ◌<◌, ◌+◌, true, List, [], ◌++◌, length, IfOk, OnOk};
+ghost use Rattle.tpm_wire.specs.Spelling.{spelling};
+ghost use Rattle.tpm_wire.specs.Token.{at_start};
+ghost use Rattle.tpm_wire.specs.Reading.{read};
+ghost use Rattle.tpm_wire.specs.Buffers.{Takes, TakesNumbered};
 ghost use Rattle.tpm_types.specs.Limits.{digest_bytes};
 ghost use Rattle.tpm_types.specs.declared.tpms.Auth.{Auth};
 ghost use Rattle.tpm_types.specs.Tpms.{auth_command};
-ghost use Rattle.tpm_wire.specs.Spelling.{spelling};
-ghost use Rattle.tpm_wire.specs.Buffers.{Takes, TakesNumbered};
-ghost use Rattle.tpm_buffer.specs.Commands.{sessions, authorization_size, authorization};
-ghost use Rattle.tpm_buffer.specs.inner.CommandAreas.{LeavesAuthorization};
+ghost use Rattle.tpm_buffer.specs.Commands.{is_tag, command_size, header, sessions, authorization};
+ghost use Rattle.tpm_buffer.specs.Parts.{tag_for};
 
-use crate::command_header::SESSIONS;
 use crate::response_sessions::{self, ReplyRef};
 use arrayvec::ArrayVec;
 use std::marker::Model;
-use tpm_types::{Auth, AuthSession, SessionAttrs};
-use tpm_wire::response_code::{AUTHSIZE, of_session};
-use tpm_wire::{Cursor, Outer, Refusal, Wire, read_rest};
+use tpm_commands::Header;
+use tpm_types::{Auth, AuthSession, CommandCode, SessionAttrs};
+use tpm_wire::response_code::{AUTHSIZE, BAD_TAG, COMMAND_CODE, COMMAND_SIZE, of_session};
+use tpm_wire::{Cursor, Refusal, Wire, read_rest};
+
+/// The tag of a buffer without sessions, TPM_ST_NO_SESSIONS.
+pub const NO_SESSIONS: u16 = 0x8001;
+
+/// The tag of a buffer with sessions, TPM_ST_SESSIONS.
+pub const SESSIONS: u16 = 0x8002;
+
+/// The tag of a buffer with these sessions, or without where there are none.
+pub fn tag_for<T>(sessions: &[T]) -> u16
+    ensures { result ≡ tag_for sessions.now }
+{
+    if sessions.is_empty() {
+        NO_SESSIONS
+    } else {
+        SESSIONS
+    }
+}
+
+#[tactic(auto, unfolding(crate::specs::Commands::command_size))]
+pub(crate) fn take_size(cursor: &mut Cursor<'_>) -> Result<u32, Refusal>
+    ensures reads { Takes command_size cursor.old cursor.new result }
+    ensures spelled { IfOk result
+        (λ x. cursor.old.here.rest ≡ spelling command_size x ++ cursor.new.here.rest) }
+    ensures size { IfOk result (λ x. x ≡ length cursor.old.here.rest + 2) }
+    ensures four { IfOk result
+        (λ x. length cursor.old.here.rest ≡ 4 + length cursor.new.here.rest) }
+{
+    let refusal = cursor.refusal(COMMAND_SIZE);
+    let size = u32::take(cursor)?;
+    if size < 10 || size > 4096 || size as usize - 6 != cursor.left() {
+        return Err(refusal);
+    }
+    Ok(size)
+}
+
+#[tactic(auto, unfolding(crate::specs::Commands::header, crate::specs::Commands::tag, tpm_types::specs::CommandCodes::command_code))]
+#[inline(always)]
+pub(crate) fn take_header(cursor: &mut Cursor<'_>) -> Result<Header, Refusal>
+    requires { cursor.old.number ≡ 0 }
+    ensures reads { TakesNumbered (λ h. h) header cursor.old cursor.new result }
+    ensures spelled { IfOk result
+        (λ x. cursor.old.here.rest ≡ spelling header x ++ cursor.new.here.rest) }
+    ensures tag { IfOk result (λ x. is_tag x.tag ≡ true) }
+    ensures size { IfOk result (λ x. x.size ≡ length cursor.old.here.rest) }
+{
+    let bad_tag = cursor.refusal(BAD_TAG);
+    let tag = u16::take(cursor)?;
+    if tag != NO_SESSIONS && tag != SESSIONS {
+        return Err(bad_tag);
+    }
+    let size = take_size(cursor)?;
+    let unknown = cursor.refusal(COMMAND_CODE);
+    let code = CommandCode::from_number(u32::take(cursor)?).ok_or(unknown)?;
+    Ok(Header { tag, size, code })
+}
+
+// No buffer has so many bytes, so the tag is refused or else the size.
+#[tactic(auto, unfolding(crate::specs::Commands::header, crate::specs::Commands::tag, crate::specs::Commands::command_size))]
+pub(crate) fn long_fault(bytes: &[u8]) -> Refusal
+    requires { 4096 < length bytes.now }
+    ensures { read 0 header (at_start bytes.now) ≡ Err result }
+{
+    let tag = u16::from_be_bytes([bytes[0], bytes[1]]);
+    if tag != NO_SESSIONS && tag != SESSIONS {
+        return Refusal {
+            code: BAD_TAG,
+            at: 0,
+        };
+    }
+    Refusal {
+        code: COMMAND_SIZE,
+        at: 2,
+    }
+}
 
 /// A session of a command, lent from its bytes: TPMS_AUTH_COMMAND (Part 2, 10.13.2).
 #[derive(Drop)]
@@ -154,39 +230,9 @@ impl<'a> SessionList<'a> for ArrayVec<Auth, 3> {
     }
 }
 
-// Reads authorizationSize (Part 1, "Command/Response Structure"). AUTHSIZE at its place where it is less than the 9
-// bytes that a session has at least, or more than the bytes behind it; INSUFFICIENT where it is cut.
-#[tactic(auto, unfolding(crate::specs::Commands::authorization_size))]
-#[inline(always)]
-fn take_authorization_size(cursor: &mut Cursor<'_>) -> Result<u32, Refusal>
-    ensures reads { Takes authorization_size cursor.old cursor.new result }
-    ensures spelled { IfOk result
-        (λ x. cursor.old.here.rest ≡ spelling authorization_size x ++ cursor.new.here.rest) }
-    ensures least { IfOk result (λ x. 9 ≤ x) }
-{
-    let refusal = cursor.refusal(AUTHSIZE);
-    let size = u32::take(cursor)?;
-    if size < 9 || size as usize > cursor.left() {
-        return Err(refusal);
-    }
-    Ok(size)
-}
-
-// Goes on behind the authorization area, or answers AUTHSIZE at the first byte that is left in it.
-#[inline(always)]
-fn leave_authorization<'a>(cursor: &mut Cursor<'a>, behind: Outer<'a>) -> Result<(), Refusal>
-    ensures { LeavesAuthorization behind.entry cursor.old.here cursor.new.here result }
-{
-    cursor.number(0);
-    match cursor.left() {
-        0 => cursor.leave(behind),
-        _ => Err(cursor.refusal(AUTHSIZE)),
-    }
-}
-
 /// Reads the sessions of a command with this tag, none for another than 0x8002, in the place of others; or answers the
 /// authorization area's first fault, as `Handled::areas` does (Part 1, "Command/Response Structure").
-#[tactic(auto, unfolding(crate::specs::Commands::authorization))]
+#[tactic(auto, unfolding(crate::specs::Commands::authorization, crate::specs::Commands::authorization_size))]
 pub(crate) fn read_authorization<'a, S: SessionList<'a>>(
     cursor: &mut Cursor<'a>,
     tag: u16,
@@ -205,10 +251,18 @@ pub(crate) fn read_authorization<'a, S: SessionList<'a>>(
         return Ok(());
     }
     cursor.number(0);
-    let size = take_authorization_size(cursor)? as usize;
-    let behind = cursor.enter(size)?;
+    let refusal = cursor.refusal(AUTHSIZE);
+    let size = u32::take(cursor)?;
+    if size < 9 || size as usize > cursor.left() {
+        return Err(refusal);
+    }
+    let behind = cursor.enter(size as usize)?;
     auths.read_sessions(cursor)?;
-    leave_authorization(cursor, behind)
+    cursor.number(0);
+    if cursor.left() > 0 {
+        return Err(cursor.refusal(AUTHSIZE));
+    }
+    cursor.leave(behind)
 }
 
 /// The sessions of a command with this tag, which lend their nonces and their HMACs from the input; or the

@@ -6,7 +6,7 @@ use Rattle.tpm_wire.specs.Reading.{read}
 use Rattle.tpm_wire.specs.Buffers.{Place}
 use Rattle.tpm_wire.proofs.Loop.{at_place, goes_on, joined_push}
 use Rattle.tpm_types.specs.Tpms.{auth_command}
-use Rattle.tpm_buffer.proofs.command_sessions.ArrayVecAuthRef3SessionList.read_sessions.Goals as goal
+use Rattle.tpm_buffer.proofs.command_parts.ArrayVecAuthRef3SessionList.read_sessions.Goals as goal
 
 pub loop-self-preserved : goal.loop-self-preserved
 loop-self-preserved c =

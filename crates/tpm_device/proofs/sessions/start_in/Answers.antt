@@ -7,7 +7,7 @@ use Rattle.tpm_commands.specs.declared.command.Params.TheVariants as params
 use Rattle.tpm_commands.specs.Handles.{second}
 use Rattle.tpm_commands.specs.Parameters.{parameters}
 use Rattle.tpm_buffer.specs.Commands.{bind_in}
-use Rattle.tpm_device.proofs.starting.start_in.Goals as goal
+use Rattle.tpm_device.proofs.sessions.start_in.Goals as goal
 
 pub returns-in-Ok-clause-read : goal.returns-in-Ok-clause-read
 returns-in-Ok-clause-read c =

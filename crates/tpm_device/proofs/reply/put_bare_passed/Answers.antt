@@ -6,7 +6,7 @@ use Rattle.tpm_buffer.specs.Commands.{command_size}
 use Rattle.tpm_wire.specs.Structures.{sized_bytes}
 use Rattle.tpm_types.specs.Tpma.{session_attrs}
 use Rattle.tpm_types.specs.Tpms.{auth_response}
-use Rattle.tpm_device.proofs.response.put_bare_passed.Goals as goal
+use Rattle.tpm_device.proofs.reply.put_bare_passed.Goals as goal
 
 pub returns : goal.returns
 unfolding response response_front response_tag response_code command_size with_sessions without_sessions parameter_size reply_sessions further_sessions

@@ -2,7 +2,7 @@ use Rattle.std.proofs.Common.{List, ℕ, ◌∷◌, [], ◌++◌, ap, ◌∙◌}
 use Rattle.std.proofs.lemmas.List.{nil_from_length}
 use Rattle.tpm_buffer.specs.Responses.{response, response_front, response_tag, response_code, without_sessions}
 use Rattle.tpm_buffer.specs.Commands.{command_size}
-use Rattle.tpm_device.proofs.response.put_bare_alone.Goals as goal
+use Rattle.tpm_device.proofs.reply.put_bare_alone.Goals as goal
 
 pub returns : goal.returns
 unfolding response response_front response_tag response_code command_size without_sessions
