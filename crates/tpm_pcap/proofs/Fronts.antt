@@ -1,194 +1,137 @@
 -- What stands at the front of bytes, whatever comes behind them.
-use Rattle.std.proofs.Common.{◌≡◌, ℕ, ◌+◌, ◌-◌, ◌≤◌, ◌<◌, ◌==◌, Bool, true, false, List, ◌++◌, length, take, drop}
-use Rattle.std.proofs.Common.{slice_index, nat_lt, cond, Option, Some, None, Result, Ok, Err, refl, ap, ◌∙◌, arith}
-use Rattle.std.proofs.Common.{length-append, length-drop}
+use Rattle.std.proofs.Common.{◌≡◌, ◌⊎◌, ℕ, ◌-◌, ◌≤◌, ◌<◌, ◌==◌, Bool, true, false, List, ◌++◌, length, take, drop}
+use Rattle.std.proofs.Common.{cond, Result, Ok, Err, inl, inr, refl, arith, length-append}
+use Rattle.std.proofs.lemmas.Bool.{cases_lt, le-ltb, lt-ltb}
 use Rattle.std.proofs.lemmas.Bool.Decides.{nat_tests}
-use Rattle.std.proofs.lemmas.List.{drop-append-le, get_or_append_left, take-append-le}
-use Rattle.std.specs.Prelude.{not}
+use Rattle.std.proofs.lemmas.List.{drop-append-le, take-append-le}
+use Rattle.std.specs.Int.{Width, byte_len, w32}
+use Rattle.std.specs.Prelude.{not, unwrap_or}
 use Rattle.tpm_pcap.specs.declared.entry.Reason.TheVariants.{CutShort, Malformed}
 use Rattle.tpm_pcap.specs.declared.entry.Reason.{Reason}
 use Rattle.tpm_pcap.specs.declared.file.Format.TheVariants.{Savefile, Pcapng}
 use Rattle.tpm_pcap.specs.declared.file.Format.{Format}
-use Rattle.tpm_pcap.specs.declared.numbers.Order.TheVariants.{Big, Little}
+use Rattle.tpm_pcap.specs.declared.numbers.Order.TheVariants.{Big}
 use Rattle.tpm_pcap.specs.declared.numbers.Order.{Order}
-use Rattle.tpm_pcap.specs.Blocks.{Block, Framed, Read}
+use Rattle.tpm_pcap.specs.Blocks.{Block, Read}
 use Rattle.tpm_pcap.specs.Files.{next_in}
-use Rattle.tpm_pcap.specs.Numbers.{number4, low4, number4_in}
-use Rattle.tpm_pcap.specs.Pcapng.{block_by, block_in, block_sized, framed, is_length, length_in, order_at, told_in}
-use Rattle.tpm_pcap.specs.Savefiles.{record_in, record_of}
+use Rattle.tpm_pcap.specs.Numbers.{◌>>=◌, cut, field, number}
+use Rattle.tpm_pcap.specs.Pcapng.{block_by, framed, is_length, order_of, told_in}
+use Rattle.tpm_pcap.specs.Savefiles.{record_in}
 
--- ---- numbers
+-- ---- fields
 
-byte_behind : (xs ys : List ℕ) (at : ℕ) → at < length xs → slice_index (xs ++ ys) at ≡ slice_index xs at
-byte_behind xs ys at lt = get_or_append_left xs ys 0 at lt
+pub cut_is : (n : ℕ) (xs : List ℕ) → n ≤ length xs → cut n xs ≡ Ok (take n xs, drop n xs)
+unfolding cut
+cut_is n xs le = rw (le-ltb (length xs) n le) refl
 
-pub number4_behind : (xs ys : List ℕ) (at : ℕ) → at + 4 ≤ length xs → number4 (xs ++ ys) at ≡ number4 xs at
-number4_behind xs ys at le = rw (
-  byte_behind xs ys at (omega (arith, le)),
-  byte_behind xs ys (at + 1) (omega (arith, le)),
-  byte_behind xs ys (at + 2) (omega (arith, le)),
-  byte_behind xs ys (at + 2 + 1) (omega (arith, le)),
-) refl
+pub cut_front : (n : ℕ) (xs ys : List ℕ) → n ≤ length xs → cut n (xs ++ ys) ≡ Ok (take n xs, drop n xs ++ ys)
+cut_front n xs ys le =
+    rw (cut_is n (xs ++ ys) (omega (arith, le, length-append xs ys)), take-append-le n xs ys le, drop-append-le n xs ys le) refl
 
-low4_behind : (xs ys : List ℕ) (at : ℕ) → at + 4 ≤ length xs → low4 (xs ++ ys) at ≡ low4 xs at
-low4_behind xs ys at le = rw (
-  byte_behind xs ys at (omega (arith, le)),
-  byte_behind xs ys (at + 1) (omega (arith, le)),
-  byte_behind xs ys (at + 2) (omega (arith, le)),
-  byte_behind xs ys (at + 2 + 1) (omega (arith, le)),
-) refl
+cut_short : (n : ℕ) (xs : List ℕ) → length xs < n → cut n xs ≡ Err CutShort
+unfolding cut
+cut_short n xs lt = rw (lt-ltb (length xs) n lt) refl
 
-pub number4_in_behind : (order : Order) (xs ys : List ℕ) (at : ℕ) → at + 4 ≤ length xs → number4_in order (xs ++ ys) at ≡ number4_in order xs at
-number4_in_behind Big xs ys at le = number4_behind xs ys at le
-number4_in_behind Little xs ys at le = low4_behind xs ys at le
+pub field_is : (order : Order) (w : Width) (xs : List ℕ) → byte_len w ≤ length xs
+    → field order w xs ≡ Ok (number order w (take (byte_len w) xs), drop (byte_len w) xs)
+unfolding field
+field_is order w xs le = rw (cut_is (byte_len w) xs le) refl
 
--- ---- tests
+pub field_front : (order : Order) (w : Width) (xs ys : List ℕ) → byte_len w ≤ length xs
+    → field order w (xs ++ ys) ≡ Ok (number order w (take (byte_len w) xs), drop (byte_len w) xs ++ ys)
+unfolding field
+field_front order w xs ys le = rw (cut_front (byte_len w) xs ys le) refl
 
-not_below : (n m : ℕ) → nat_lt n m ≡ false → m ≤ n
-not_below n m e = grind (arith, nat_tests, e)
+field_short : (order : Order) (w : Width) (xs : List ℕ) → length xs < byte_len w → field order w xs ≡ Err CutShort
+unfolding field
+field_short order w xs lt = rw (cut_short (byte_len w) xs lt) refl
 
-pub above : (n m : ℕ) → m ≤ n → nat_lt n m ≡ false
-above n m le = grind (arith, nat_tests, le)
+-- It is cut short, or the same whatever comes behind.
+abbrev pub Kept : {A : Type 0} → Result A Reason → Result A Reason → Type 0
+Kept x y = (x ≡ Err CutShort) ⊎ (y ≡ x)
 
--- A block that is there whole, and it is told whatever comes behind it.
-cut_by : (short shorter : Bool) (x y : Read) → (cond short (Err CutShort) x ≡ Err CutShort → ⊥)
-    → (short ≡ false → (shorter ≡ false) × ((x ≡ Err CutShort → ⊥) → y ≡ x)) → cond shorter (Err CutShort) y ≡ cond short (Err CutShort) x
-cut_by true shorter x y whole f = absurd (whole refl)
-cut_by false shorter x y whole f = let g = f refl in rw g.0 (g.1 whole)
+cut_kept : {A : Type 0} (n : ℕ) (xs ys : List ℕ) (f : List ℕ × List ℕ → Result A Reason)
+    → ((front rest : List ℕ) → Kept (f (front, rest)) (f (front, rest ++ ys))) → Kept (cut n xs >>= f) (cut n (xs ++ ys) >>= f)
+cut_kept n xs ys f kept =
+    elim (cases_lt (length xs) n) [
+      | inl lt ↦ inl (rw (cut_short n xs lt) refl)
+      | inr le ↦ rw (cut_is n xs le, cut_front n xs ys le) (kept (take n xs) (drop n xs))
+    ]
 
--- ---- a block of pcapng
+field_kept : {A : Type 0} (order : Order) (w : Width) (xs ys : List ℕ) (f : ℕ × List ℕ → Result A Reason)
+    → ((n : ℕ) (rest : List ℕ) → Kept (f (n, rest)) (f (n, rest ++ ys))) → Kept (field order w xs >>= f) (field order w (xs ++ ys) >>= f)
+field_kept order w xs ys f kept =
+    elim (cases_lt (length xs) (byte_len w)) [
+      | inl lt ↦ inl (rw (field_short order w xs lt) refl)
+      | inr le ↦ rw (field_is order w xs le, field_front order w xs ys le) (kept (number order w (take (byte_len w) xs)) (drop (byte_len w) xs))
+    ]
 
-abbrev pub judged : (bad short same : Bool) → ℕ → Result ℕ Reason
-judged bad short same n = cond bad (Err Malformed) (cond short (Err CutShort) (cond same (Ok n) (Err Malformed)))
+then_kept : {A B : Type 0} (x y : Result A Reason) (f g : A → Result B Reason) → Kept x y → ((a : A) → Kept (f a) (g a)) → Kept (x >>= f) (y >>= g)
+then_kept x y f g (inl e) kept = inl (rw e refl)
+then_kept (Ok a) y f g (inr e) kept = rw e (kept a)
+then_kept (Err reason) y f g (inr e) kept = inr (rw e refl)
 
-judged_behind : (bad short shorter same also : Bool) (n : ℕ) → (judged bad short same n ≡ Err CutShort → ⊥)
-    → (short ≡ false → (shorter ≡ false) × (also ≡ same)) → judged bad shorter also n ≡ judged bad short same n
-judged_behind true short shorter same also n whole f = refl
-judged_behind false true shorter same also n whole f = absurd (whole refl)
-judged_behind false false shorter same also n whole f = let g = f refl in rw (g.0, g.1) refl
-
-length_behind : (order : Order) (xs ys : List ℕ) → 12 ≤ length xs → (length_in order xs ≡ Err CutShort → ⊥) → length_in order (xs ++ ys) ≡ length_in order xs
-length_behind order xs ys many whole =
-    let n = number4_in order xs 4 in
-    rw (number4_in_behind order xs ys 4 (omega (arith, many)))
-    (judged_behind (not (is_length n)) (nat_lt (length xs) n) (nat_lt (length (xs ++ ys)) n) (number4_in order (drop (n - 4) xs) 0 == n)
-    (number4_in order (drop (n - 4) (xs ++ ys)) 0 == n) n whole (λ fits.
-    let le : n ≤ length xs = not_below (length xs) n fits in (
-      above (length (xs ++ ys)) n (omega (arith, le, length-append xs ys)),
-      ap (λ (m : ℕ). m == n) (ap (λ (zs : List ℕ). number4_in order zs 0) (drop-append-le (n - 4) xs ys (omega (arith, le)))
-          ∙ number4_in_behind order (drop (n - 4) xs) ys 0 (omega (arith, le, many, length-drop (n - 4) xs))),
-    )))
-
--- It has so many bytes, which are all there.
-abbrev pub HasLength : List ℕ → Result ℕ Reason → Type 0
-HasLength xs (Ok n) = (0 < n) × (n ≤ length xs)
-HasLength xs (Err reason) = Unit {0}
-
-judged_length : (xs : List ℕ) (bad short same : Bool) (n : ℕ) → (bad ≡ false → 0 < n) → (short ≡ false → n ≤ length xs) → HasLength xs (judged bad short same n)
-judged_length xs true short same n f g = tt
-judged_length xs false true same n f g = tt
-judged_length xs false false true n f g = (f refl, g refl)
-judged_length xs false false false n f g = tt
-
-some_length : (n : ℕ) → not (is_length n) ≡ false → 0 < n
-some_length n e = grind (arith, nat_tests, e)
-
-length_some : (order : Order) (xs : List ℕ) → HasLength xs (length_in order xs)
-length_some order xs =
-    let n = number4_in order xs 4 in
-    judged_length xs (not (is_length n)) (nat_lt (length xs) n) (number4_in order (drop (n - 4) xs) 0 == n) n (some_length n) (not_below (length xs) n)
-
-sized_behind : (order : Order) (size : Result ℕ Reason) (xs ys : List ℕ) → HasLength xs size → block_sized order size (xs ++ ys) ≡ block_sized order size xs
-sized_behind order (Err reason) xs ys has = refl
-sized_behind order (Ok n) xs ys has = ap (λ (block : List ℕ). framed n (told_in order block)) (take-append-le n xs ys has.1)
-
-by_behind : (o : Option Order) (xs ys : List ℕ) → 12 ≤ length xs → (block_by o xs ≡ Err CutShort → ⊥) → block_by o (xs ++ ys) ≡ block_by o xs
-by_behind None xs ys many whole = refl
-by_behind (Some order) xs ys many whole =
-    ap (λ (size : Result ℕ Reason). block_sized order size (xs ++ ys))
-    (length_behind order xs ys many (λ cut. whole (ap (λ (size : Result ℕ Reason). block_sized order size xs) cut)))
-    ∙ sized_behind order (length_in order xs) xs ys (length_some order xs)
-
-order_behind : (section : Order) (xs ys : List ℕ) → 12 ≤ length xs → order_at section (xs ++ ys) ≡ order_at section xs
-order_behind section xs ys many = rw (number4_behind xs ys 0 (omega (arith, many)), number4_behind xs ys 8 (omega (arith, many))) refl
-
-block_behind : (section : Order) (xs ys : List ℕ) → (block_in section xs ≡ Err CutShort → ⊥) → block_in section (xs ++ ys) ≡ block_in section xs
-unfolding block_in
-block_behind section xs ys whole =
-    cut_by (nat_lt (length xs) 12) (nat_lt (length (xs ++ ys)) 12) (block_by (order_at section xs) xs)
-    (block_by (order_at section (xs ++ ys)) (xs ++ ys)) whole (λ fits.
-    let many : 12 ≤ length xs = not_below (length xs) 12 fits in (
-      above (length (xs ++ ys)) 12 (omega (arith, many, length-append xs ys)),
-      λ there. ap (λ (o : Option Order). block_by o (xs ++ ys)) (order_behind section xs ys many)
-          ∙ by_behind (order_at section xs) xs ys many there,
-    ))
-
--- ---- a packet of libpcap
-
-whole_behind : (order : Order) (xs ys : List ℕ) → number4_in order xs 8 + 16 ≤ length xs → record_of order (xs ++ ys) ≡ record_of order xs
-whole_behind order xs ys le = rw (
-  number4_in_behind order xs ys 0 (omega (arith, le)),
-  number4_in_behind order xs ys 4 (omega (arith, le)),
-  number4_in_behind order xs ys 8 (omega (arith, le)),
-  number4_in_behind order xs ys 12 (omega (arith, le)),
-  drop-append-le 16 xs ys (omega (arith, le)),
-  take-append-le (number4_in order xs 8) (drop 16 xs) ys (omega (arith, le, length-drop 16 xs)),
-) refl
-
-record_behind : (order : Order) (xs ys : List ℕ) → (record_in order xs ≡ Err CutShort → ⊥) → record_in order (xs ++ ys) ≡ record_in order xs
-unfolding record_in
-record_behind order xs ys whole =
-    let n = number4_in order xs 8 + 16 in
-    let m = number4_in order (xs ++ ys) 8 + 16 in
-    cut_by (nat_lt (length xs) 16) (nat_lt (length (xs ++ ys)) 16) (cond (nat_lt (length xs) n) (Err CutShort) (Ok (record_of order xs)))
-    (cond (nat_lt (length (xs ++ ys)) m) (Err CutShort) (Ok (record_of order (xs ++ ys)))) whole (λ head.
-    let many : 16 ≤ length xs = not_below (length xs) 16 head in
-    let same : m ≡ n = ap (λ (k : ℕ). k + 16) (number4_in_behind order xs ys 8 (omega (arith, many))) in (
-      above (length (xs ++ ys)) 16 (omega (arith, many, length-append xs ys)),
-      λ there. cut_by (nat_lt (length xs) n) (nat_lt (length (xs ++ ys)) m) (Ok (record_of order xs)) (Ok (record_of order (xs ++ ys))) there (λ fits.
-          let le : n ≤ length xs = not_below (length xs) n fits in (
-            above (length (xs ++ ys)) m (omega (arith, le, same, length-append xs ys)),
-            λ _. ap (λ (framed : Framed). Ok framed) (whole_behind order xs ys le),
-          )),
-    ))
+either_kept : {A : Type 0} (test : Bool) (x y z : Result A Reason) → Kept y z → Kept (cond test x y) (cond test x z)
+either_kept true x y z kept = inr refl
+either_kept false x y z kept = kept
 
 -- ---- the next of either format
 
+record_kept : (order : Order) (xs ys : List ℕ) → Kept (record_in order xs) (record_in order (xs ++ ys))
+unfolding record_in
+record_kept order xs ys =
+    field_kept order w32 xs ys _ (λ seconds rest. field_kept order w32 rest ys _ (λ units rest. field_kept order w32 rest ys _ (λ captured rest.
+    field_kept order w32 rest ys _ (λ size rest. cut_kept captured rest ys _ (λ packet rest. inr refl)))))
+
+pub order_kept : (xs ys : List ℕ) → Kept (order_of xs) (order_of (xs ++ ys))
+unfolding order_of
+order_kept xs ys =
+    field_kept Big w32 xs ys _ (λ kind rest. field_kept Big w32 rest ys _ (λ size rest. field_kept Big w32 rest ys _ (λ magic rest. inr refl)))
+
+block_kept : (order : Order) (xs ys : List ℕ) → Kept (block_by order xs) (block_by order (xs ++ ys))
+unfolding block_by
+block_kept order xs ys =
+    field_kept order w32 xs ys _ (λ kind rest. field_kept order w32 rest ys _ (λ size rest. either_kept (not (is_length size)) (Err Malformed) _ _
+    (cut_kept (size - 12) rest ys _ (λ body rest. field_kept order w32 rest ys _ (λ again rest. inr refl)))))
+
+next_kept : (format : Format) (order : Order) (xs ys : List ℕ) → Kept (next_in format order xs) (next_in format order (xs ++ ys))
+next_kept Savefile order xs ys = record_kept order xs ys
+next_kept Pcapng order xs ys = then_kept (order_of xs) (order_of (xs ++ ys)) _ _ (order_kept xs ys) (λ o. block_kept (unwrap_or o order) xs ys)
+
 pub next_behind : (format : Format) (order : Order) (xs ys : List ℕ) → (next_in format order xs ≡ Err CutShort → ⊥)
     → next_in format order (xs ++ ys) ≡ next_in format order xs
-next_behind Savefile order xs ys whole = record_behind order xs ys whole
-next_behind Pcapng order xs ys whole = block_behind order xs ys whole
+next_behind format order xs ys whole = elim (next_kept format order xs ys) [ inl short ↦ absurd (whole short) | inr same ↦ same ]
 
 -- It has a byte at least.
 abbrev pub IsSome : Read → Type 0
 IsSome (Ok b) = 0 < b.size
 IsSome (Err reason) = Unit {0}
 
-some_by : (test : Bool) (x y : Read) → IsSome x → IsSome y → IsSome (cond test x y)
-some_by true x y f g = f
-some_by false x y f g = g
+then_some : {A : Type 0} (x : Result A Reason) (f : A → Read) → ((a : A) → IsSome (f a)) → IsSome (x >>= f)
+then_some (Ok a) f some = some a
+then_some (Err reason) f some = tt
 
-framed_some : (n : ℕ) (block : Option Block) → 0 < n → IsSome (framed n block)
-framed_some n None some = tt
-framed_some n (Some block) some = some
+either_some : (test : Bool) (x y : Read) → IsSome x → (test ≡ false → IsSome y) → IsSome (cond test x y)
+either_some true x y f g = f
+either_some false x y f g = g refl
 
-sized_some : (order : Order) (size : Result ℕ Reason) (xs : List ℕ) → HasLength xs size → IsSome (block_sized order size xs)
-sized_some order (Err reason) xs has = tt
-sized_some order (Ok n) xs has = framed_some n (told_in order (take n xs)) has.0
+framed_some : (n : ℕ) (block : Result Block Reason) → 0 < n → IsSome (framed n block)
+framed_some n (Err reason) some = tt
+framed_some n (Ok block) some = some
 
-by_some : (o : Option Order) (xs : List ℕ) → IsSome (block_by o xs)
-by_some None xs = tt
-by_some (Some order) xs = sized_some order (length_in order xs) xs (length_some order xs)
-
-block_some : (section : Order) (xs : List ℕ) → IsSome (block_in section xs)
-unfolding block_in
-block_some section xs = some_by (nat_lt (length xs) 12) (Err CutShort) (block_by (order_at section xs) xs) tt (by_some (order_at section xs) xs)
+block_some : (order : Order) (xs : List ℕ) → IsSome (block_by order xs)
+unfolding block_by
+block_some order xs =
+    then_some (field order w32 xs) _ (λ kind. then_some (field order w32 kind.1) _ (λ size. either_some (not (is_length size.0)) (Err Malformed) _ tt (λ long.
+    then_some (cut (size.0 - 12) size.1) _ (λ body. then_some (field order w32 body.1) _ (λ again. either_some (again.0 == size.0) _ (Err Malformed)
+    (framed_some size.0 (told_in order kind.0 body.0) (grind (arith, nat_tests, long))) (λ _. tt))))))
 
 record_some : (order : Order) (xs : List ℕ) → IsSome (record_in order xs)
 unfolding record_in
-record_some order xs = some_by (nat_lt (length xs) 16) (Err CutShort) _ tt
-    (some_by (nat_lt (length xs) (number4_in order xs 8 + 16)) (Err CutShort) (Ok (record_of order xs)) tt (omega arith))
+record_some order xs =
+    then_some (field order w32 xs) _ (λ seconds. then_some (field order w32 seconds.1) _ (λ units. then_some (field order w32 units.1) _ (λ captured.
+    then_some (field order w32 captured.1) _ (λ size. then_some (cut captured.0 size.1) _ (λ packet. omega arith)))))
 
 pub next_some : (format : Format) (order : Order) (xs : List ℕ) → IsSome (next_in format order xs)
 next_some Savefile order xs = record_some order xs
-next_some Pcapng order xs = block_some order xs
+next_some Pcapng order xs = then_some (order_of xs) _ (λ o. block_some (unwrap_or o order) xs)

@@ -9,7 +9,7 @@ use Rattle.tpm_pcap.specs.declared.entry.Reason.{Reason}
 use Rattle.tpm_pcap.specs.declared.file.Format.{Format}
 use Rattle.tpm_pcap.specs.Blocks.{Framed, Read}
 use Rattle.tpm_pcap.specs.Entries.{Entry, Untold}
-use Rattle.tpm_pcap.specs.Files.{FilePlace, Reader, after_block, block_told, blocks_told, ended, entries_from, left_told, most_told, next_in}
+use Rattle.tpm_pcap.specs.Files.{FilePlace, Reader, after_block, blocks_told, ended, entries_from, left_told, most_told, next_in}
 use Rattle.tpm_pcap.specs.Files.{read_told}
 use Rattle.tpm_pcap.specs.inner.Files.{Come, GoesOn, TakesBlocks, may_go_on}
 use Rattle.tpm_pcap.proofs.Few.{unfinished_few}
@@ -18,10 +18,11 @@ use Rattle.tpm_pcap.proofs.Reading.{at_most_one, ends, goes, stops}
 
 -- ---- There are never more blocks than bytes.
 
-read_same : (r : Reader) (read : Read) → IsSome read → (f g : Framed → List Entry) → ((b : Framed) → 0 < b.size → f b ≡ g b)
+read_same : (r : Reader) (read : Read) → IsSome read → (f g : Reader → ℕ → List Entry) → ((after : Reader) (size : ℕ) → 0 < size → f after size ≡ g after size)
     → read_told r read f ≡ read_told r read g
 read_same r (Err reason) some f g same = refl
-read_same r (Ok b) some f g same = ap (λ (others : List Entry). block_told r b.block ++ others) (same b some)
+read_same r (Ok b) some f g same =
+    let after = after_block r b.block in ap (λ (others : List Entry). after.1 ++ others) (same after.0 b.size some)
 
 enough : (format : Format) (m n : ℕ) (r : Reader) (xs : List ℕ) → length xs ≤ m → length xs ≤ n → entries_from format m r xs ≡ entries_from format n r xs
 enough format m n r [] a b = ends format m r [] refl ∙ sym (ends format n r [] refl)
@@ -30,10 +31,10 @@ enough format (suc m) zero r (x ∷ xs) a b = absurd (omega (arith, b))
 enough format (suc m) (suc n) r (x ∷ xs) a b =
     let some : (length (x ∷ xs) == 0) ≡ false = ne_eqb (length (x ∷ xs)) 0 (λ e. omega (arith, e)) in
     rw some (read_same r (next_in format r.section.order (x ∷ xs)) (next_some format r.section.order (x ∷ xs))
-    (λ (f : Framed). entries_from format m (after_block r f.block) (drop f.size (x ∷ xs)))
-    (λ (f : Framed). entries_from format n (after_block r f.block) (drop f.size (x ∷ xs)))
-    (λ f any. enough format m n (after_block r f.block) (drop f.size (x ∷ xs)) (omega (arith, a, any, length-drop f.size (x ∷ xs)))
-    (omega (arith, b, any, length-drop f.size (x ∷ xs)))))
+    (λ (after : Reader) (size : ℕ). entries_from format m after (drop size (x ∷ xs)))
+    (λ (after : Reader) (size : ℕ). entries_from format n after (drop size (x ∷ xs)))
+    (λ after size any. enough format m n after (drop size (x ∷ xs)) (omega (arith, a, any, length-drop size (x ∷ xs)))
+    (omega (arith, b, any, length-drop size (x ∷ xs)))))
 
 -- ---- a block that has come whole
 
@@ -45,14 +46,14 @@ not_cut : (format : Format) (r : Reader) (xs : List ℕ) (b : Framed) → next_i
 not_cut format r xs b is cut = let no : ⊥ = cc (is, cut) in no
 
 one_told : (format : Format) (r : Reader) (xs ys : List ℕ) (b : Framed) → next_in format r.section.order xs ≡ Ok b → 0 < b.size → b.size ≤ length xs
-    → blocks_told format r (xs ++ ys) ≡ block_told r b.block ++ blocks_told format (after_block r b.block) (drop b.size xs ++ ys)
+    → blocks_told format r (xs ++ ys) ≡ (after_block r b.block).1 ++ blocks_told format (after_block r b.block).0 (drop b.size xs ++ ys)
 one_told format r xs ys b is some le =
     let after = after_block r b.block in
     let behind = next_behind format r.section.order xs ys (not_cut format r xs b is) ∙ is in
     let g = goes format (length (xs ++ ys)) r (xs ++ ys) b (omega arith) (some_behind xs ys (omega (arith, some, le))) behind in
-    g.told ∙ ap (λ (others : List Entry). block_told r b.block ++ others)
-    (ap (λ (zs : List ℕ). entries_from format g.fewer after zs) (drop-append-le b.size xs ys le)
-    ∙ enough format g.fewer (length (drop b.size xs ++ ys)) after (drop b.size xs ++ ys) (omega (
+    g.told ∙ ap (λ (others : List Entry). after.1 ++ others)
+    (ap (λ (zs : List ℕ). entries_from format g.fewer after.0 zs) (drop-append-le b.size xs ys le)
+    ∙ enough format g.fewer (length (drop b.size xs ++ ys)) after.0 (drop b.size xs ++ ys) (omega (
       arith,
       g.most_is,
       some,
@@ -67,15 +68,15 @@ pub goes_none : (format : Format) (r : Reader) (bytes : List ℕ) (last : Bool)
 goes_none format r bytes last = record { fits = omega arith; left = λ rest. refl; few = omega arith; number = omega arith }
 
 pub goes_more : (c : Come) (used : ℕ) (b : Framed) → GoesOn c used → next_in c.format c.new.section.order (drop used c.bytes) ≡ Ok b → 0 < b.size
-    → b.size ≤ length (drop used c.bytes) → length (block_told c.new b.block) ≤ most_told
-    → GoesOn (record c { new = after_block c.new b.block; told = c.told ++ block_told c.new b.block }) (used + b.size)
-goes_more c used b g is some le few = record {
+    → b.size ≤ length (drop used c.bytes) → length (after_block c.new b.block).1 ≤ most_told
+    → GoesOn (record c { new = (after_block c.new b.block).0; told = c.told ++ (after_block c.new b.block).1 }) (used + b.size)
+goes_more c used b g is some le few = let after = after_block c.new b.block in record {
   fits = omega (arith, g.fits, le, length-drop used c.bytes);
   left = λ rest. g.left rest
       ∙ ap (λ (others : List Entry). c.told ++ others) (one_told c.format c.new (drop used c.bytes) rest b is some le
-      ∙ ap (λ (zs : List ℕ). block_told c.new b.block ++ blocks_told c.format (after_block c.new b.block) (zs ++ rest)) (drop-drop b.size used c.bytes))
-      ∙ sym (append_assoc c.told (block_told c.new b.block) (blocks_told c.format (after_block c.new b.block) (drop (used + b.size) c.bytes ++ rest)));
-  few = omega (arith, g.few, few, some, length-append c.told (block_told c.new b.block));
+      ∙ ap (λ (zs : List ℕ). after.1 ++ blocks_told c.format after.0 (zs ++ rest)) (drop-drop b.size used c.bytes))
+      ∙ sym (append_assoc c.told after.1 (blocks_told c.format after.0 (drop (used + b.size) c.bytes ++ rest)));
+  few = omega (arith, g.few, few, some, length-append c.told after.1);
   number = omega (arith, g.number, some, at_most_one c.new b.block);
 }
 

@@ -5,14 +5,14 @@ use Rattle.tpm_pcap.specs.declared.entry.Reason.{Reason}
 use Rattle.tpm_pcap.specs.declared.file.Format.{Format}
 use Rattle.tpm_pcap.specs.Blocks.{Block, Section, Describes, Captured, Simple, Other, Framed}
 use Rattle.tpm_pcap.specs.Entries.{Entry, Untold}
-use Rattle.tpm_pcap.specs.Files.{Reader, after_block, block_told, ended, entries_from, next_in}
+use Rattle.tpm_pcap.specs.Files.{Reader, after_block, ended, entries_from, next_in}
 
 -- What comes of the blocks is what comes of the first, and then of the others.
 pub record Goes (format : Format) (most : ℕ) (r : Reader) (bytes : List ℕ) (b : Framed) : Type 0 where
   pub fewer : ℕ
   pub most_is : most ≡ fewer + 1
   pub told : entries_from format most r bytes
-      ≡ block_told r b.block ++ entries_from format fewer (after_block r b.block) (drop b.size bytes)
+      ≡ (after_block r b.block).1 ++ entries_from format fewer (after_block r b.block).0 (drop b.size bytes)
 
 pub goes : (format : Format) (most : ℕ) (r : Reader) (bytes : List ℕ) (b : Framed) → length bytes ≤ most → (length bytes == 0) ≡ false
     → next_in format r.section.order bytes ≡ Ok b → Goes format most r bytes b
@@ -33,7 +33,7 @@ pub added : (before told rest whole after : List Entry) → after ≡ before ++ 
 added before told rest whole after is same = rw (is, append_assoc before told rest) same
 
 -- A block has one packet at most.
-pub at_most_one : (r : Reader) (b : Block) → (after_block r b).packet ≤ r.packet + 1
+pub at_most_one : (r : Reader) (b : Block) → (after_block r b).0.packet ≤ r.packet + 1
 at_most_one r (Section order) = omega arith
 at_most_one r (Describes interface) = omega arith
 at_most_one r (Captured p) = omega arith

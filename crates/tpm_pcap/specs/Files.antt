@@ -1,20 +1,22 @@
 -- What a file tells: of libpcap's format (pcap-savefile(5)), or of pcapng (IETF draft-ietf-opsawg-pcapng).
-use Rattle.std.specs.Prelude.{◌≡◌, ◌<◌, ◌≤◌, ℕ, zero, suc, ◌+◌, ◌*◌, ◌%◌, ◌==◌, nat_lt, Bool, true, false}
+use Rattle.std.specs.Prelude.{◌≡◌, ◌<◌, ◌≤◌, ℕ, zero, suc, ◌+◌, ◌*◌, ◌==◌, Bool, true, false}
+use Rattle.std.specs.Result.{result_unwrap_or}
 use Rattle.std.specs.Prelude.{List, [], ◌∷◌, ◌++◌, length, drop, Option, Some, None, Ok, Err, if◌then◌else◌}
 use Rattle.tpm_pcap.specs.declared.entry.Stamp.{Stamp}
 use Rattle.tpm_pcap.specs.declared.file.Format.TheVariants.{Savefile, Pcapng}
 use Rattle.tpm_pcap.specs.declared.file.Format.{Format}
 use Rattle.tpm_pcap.specs.declared.link.Link.{Link}
 use Rattle.tpm_pcap.specs.declared.numbers.Order.{Order}
+use Rattle.tpm_pcap.specs.declared.savefile.Header.{Header}
 use Rattle.tpm_pcap.specs.Blocks.{Block, Describes, Captured, Simple, Other, Framed, Packet, Read}
 use Rattle.tpm_pcap.specs.Entries.{Entry, Untold}
 use Rattle.tpm_pcap.specs.Links.{link_of}
-use Rattle.tpm_pcap.specs.Numbers.{number4_in}
+use Rattle.tpm_pcap.specs.Numbers.{Fields}
 use Rattle.tpm_pcap.specs.Pcapng.{block_in}
 use Rattle.tpm_pcap.specs.Savefiles.{record_in}
 use Rattle.tpm_pcap.specs.Sections.{Section, new_section, with_interface, packet_time, simple_packet}
 use Rattle.tpm_pcap.specs.Sections.{carried_of}
-use Rattle.tpm_pcap.specs.Talks.{Talk, new_talk, after_carried, carried_told, unfinished}
+use Rattle.tpm_pcap.specs.Talks.{Talk, new_talk, after_carried, unfinished}
 use Rattle.tpm_pcap.specs.Blocks as blocks
 use Rattle.tpm_pcap.specs.Pcapng as pcapng
 use Rattle.tpm_pcap.specs.Savefiles as savefile
@@ -31,31 +33,22 @@ pub record Reader : Type 0 where
 abbrev pub reader_of : (port : ℕ) → Section → Reader
 reader_of port s = record { port = port; section = s; talk = new_talk; packet = 1 }
 
--- ---- a block
-
-abbrev pub after_packet : Reader → Packet → Reader
-after_packet r p = record r { talk = after_carried r.talk (carried_of r.port r.section p); packet = r.packet + 1 }
+-- ---- a block: what comes of the reader, and what is told
 
 abbrev pub packet_stamp : Reader → Packet → Stamp
 packet_stamp r p = record { packet = r.packet; time = packet_time r.section p }
 
-abbrev pub packet_told : Reader → Packet → List Entry
-packet_told r p = carried_told (packet_stamp r p) r.talk (carried_of r.port r.section p)
+abbrev pub after_packet : Reader → Packet → Reader × List Entry
+after_packet r p = let t = after_carried (packet_stamp r p) r.talk (carried_of r.port r.section p) in
+    (record r { talk = t.0; packet = r.packet + 1 }, t.1)
 
 -- A new section has interfaces of its own.
-abbrev pub after_block : Reader → Block → Reader
-after_block r (blocks.Section order) = record r { section = new_section order }
-after_block r (Describes interface) = record r { section = with_interface r.section interface }
+abbrev pub after_block : Reader → Block → Reader × List Entry
+after_block r (blocks.Section order) = (record r { section = new_section order }, [])
+after_block r (Describes interface) = (record r { section = with_interface r.section interface }, [])
 after_block r (Captured p) = after_packet r p
 after_block r (Simple size bytes) = after_packet r (simple_packet r.section size bytes)
-after_block r Other = r
-
-abbrev pub block_told : Reader → Block → List Entry
-block_told r (blocks.Section order) = []
-block_told r (Describes interface) = []
-block_told r (Captured p) = packet_told r p
-block_told r (Simple size bytes) = packet_told r (simple_packet r.section size bytes)
-block_told r Other = []
+after_block r Other = (r, [])
 
 -- ---- blocks
 
@@ -67,17 +60,17 @@ abbrev pub ended : Reader → List Entry
 ended r = unfinished r.packet r.talk
 
 -- a block and those behind it, or that the next packet is not told, and why
-abbrev pub read_told : Reader → Read → (others : Framed → List Entry) → List Entry
+abbrev pub read_told : Reader → Read → (others : Reader → (size : ℕ) → List Entry) → List Entry
 read_told r (Err reason) others = Untold r.packet reason ∷ ended r
-read_told r (Ok b) others = block_told r b.block ++ others b
+read_told r (Ok b) others = let after = after_block r b.block in after.1 ++ others after.0 b.size
 
 -- The blocks from here. There are no more of them than bytes.
 abbrev pub entries_from : Format → (most : ℕ) → Reader → List ℕ → List Entry
 entries_from format zero r bytes = ended r
 entries_from format (suc most) r bytes =
     if length bytes == 0 then ended r
-    else read_told r (next_in format r.section.order bytes) (λ b. entries_from format most (after_block r b.block)
-    (drop b.size bytes))
+    else read_told r (next_in format r.section.order bytes)
+    (λ after size. entries_from format most after (drop size bytes))
 
 abbrev pub blocks_told : Format → Reader → List ℕ → List Entry
 blocks_told format r bytes = entries_from format (length bytes) r bytes
@@ -94,25 +87,20 @@ pub data Traffic : Type 0 where
   Entries : List Entry → Traffic
 
 -- libpcap's: behind its header, on the one interface of its kind of link
-abbrev pub on_link : Order → Link → (per_second : ℕ) → Section
-on_link order link per_second =
-    with_interface (new_section order) (record { link = Some link; limit = 0; per_second = per_second })
+abbrev pub on_link : Header → Link → Section
+on_link header link = with_interface (new_section header.order)
+    (record { link = Some link; limit = 0; per_second = header.per_second })
 
-abbrev pub link_number : Order → List ℕ → ℕ
-link_number order bytes = number4_in order bytes 20 % 65536
+abbrev pub savefile_over : (port : ℕ) → Header → Option Link → List ℕ → Traffic
+savefile_over port header None packets = OtherLink header.link
+savefile_over port header (Some link) packets = Entries (entries_of port Savefile (on_link header link) packets)
 
-abbrev pub savefile_over : (port : ℕ) → Order → Option Link → List ℕ → Traffic
-savefile_over port order None bytes = OtherLink (link_number order bytes)
-savefile_over port order (Some link) bytes =
-    Entries (entries_of port Savefile (on_link order link (savefile.per_second bytes)) (drop 24 bytes))
-
-abbrev pub savefile_by : (port : ℕ) → Option Order → List ℕ → Traffic
-savefile_by port None bytes = NoCapture
-savefile_by port (Some order) bytes = savefile_over port order (link_of (link_number order bytes)) bytes
+abbrev pub savefile_by : (port : ℕ) → Fields Header → Traffic
+savefile_by port (Err reason) = NoCapture
+savefile_by port (Ok header) = savefile_over port header.0 (link_of header.0.link) header.1
 
 abbrev pub savefile_traffic : (port : ℕ) → List ℕ → Traffic
-savefile_traffic port bytes =
-    if nat_lt (length bytes) 24 then NoCapture else savefile_by port (savefile.order_of bytes) bytes
+savefile_traffic port bytes = savefile_by port (savefile.header_in bytes)
 
 -- pcapng's, whose first block begins a section
 abbrev pub traffic_by : (port : ℕ) → Option Order → List ℕ → Traffic
@@ -121,7 +109,7 @@ traffic_by port (Some order) bytes = Entries (entries_of port Pcapng (new_sectio
 
 -- on the port of a simulator
 abbrev pub traffic_in : (port : ℕ) → List ℕ → Traffic
-traffic_in port bytes = traffic_by port (pcapng.order_of bytes) bytes
+traffic_in port bytes = traffic_by port (result_unwrap_or (pcapng.order_of bytes) None) bytes
 
 -- ---- a file that comes in pieces
 

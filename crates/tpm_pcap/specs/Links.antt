@@ -27,9 +27,10 @@ head_size Cooked2 = 20
 abbrev pub is_internet : ℕ → Bool
 is_internet kind = kind == 0x0800 || kind == 0x86dd
 
-abbrev pub carries_internet : Link → List ℕ → Bool
-carries_internet Raw bytes = true
-carries_internet Loopback bytes = true
-carries_internet Ethernet bytes = is_internet (number2 bytes 12)
-carries_internet Cooked bytes = is_internet (number2 bytes 14)
-carries_internet Cooked2 bytes = is_internet (number2 bytes 0)
+-- A packet of the internet stands behind this head, which tells the type of what does.
+abbrev pub carries_internet : Link → (head : List ℕ) → Bool
+carries_internet Raw head = true
+carries_internet Loopback head = true
+carries_internet Ethernet head = is_internet (number2 head 12)
+carries_internet Cooked head = is_internet (number2 head 14)
+carries_internet Cooked2 head = is_internet (number2 head 0)

@@ -1,114 +1,105 @@
 -- The blocks of a pcapng file (IETF draft-ietf-opsawg-pcapng, "PCAP Now Generic (pcapng) Capture File Format").
-use Rattle.std.specs.Prelude.{ℕ, ◌-◌, ◌%◌, ◌==◌, ◌||◌, ◌&&◌, nat_lt, not, Bool, List, length, take, drop, Option, Some}
-use Rattle.std.specs.Prelude.{None, Result, Ok, Err, if◌then◌else◌}
-use Rattle.tpm_pcap.specs.declared.block.Interface.{Interface}
+use Rattle.std.specs.Prelude.{ℕ, ◌-◌, ◌%◌, ◌==◌, ◌&&◌, nat_lt, not, Bool, List, Option, Some, None, Result, Ok, Err}
+use Rattle.std.specs.Prelude.{unwrap_or, if◌then◌else◌}
+use Rattle.std.specs.Int.{w16, w32}
 use Rattle.tpm_pcap.specs.declared.block.Ticks.TheVariants.{Units}
-use Rattle.tpm_pcap.specs.declared.entry.Reason.TheVariants.{CutShort, Malformed}
+use Rattle.tpm_pcap.specs.declared.entry.Reason.TheVariants.{Malformed}
 use Rattle.tpm_pcap.specs.declared.entry.Reason.{Reason}
 use Rattle.tpm_pcap.specs.declared.numbers.Order.TheVariants.{Big, Little}
 use Rattle.tpm_pcap.specs.declared.numbers.Order.{Order}
 use Rattle.tpm_pcap.specs.Blocks.{Block, Section, Describes, Captured, Simple, Other, Read}
 use Rattle.tpm_pcap.specs.Links.{link_of}
-use Rattle.tpm_pcap.specs.Numbers.{number2_in, number4, number4_in}
+use Rattle.tpm_pcap.specs.Numbers.{◌>>=◌, cut, field}
 use Rattle.tpm_pcap.specs.Options.{per_second_in}
 
--- ---- Section Header Block: its type, which is the same in either order, and Byte-Order Magic
-
-abbrev pub order_of_magic : ℕ → Option Order
-order_of_magic magic =
-    if magic == 0x1a2b3c4d then Some Big
-    else if magic == 0x4d3c2b1a then Some Little
-    else None
+-- ---- Section Header Block: its type, which is the same in either order, its length, and Byte-Order Magic
 
 abbrev pub header_kind : ℕ
 header_kind = 0x0a0d0d0a
 
--- the order of the numbers of a section that begins with these bytes, if they begin one
-abbrev pub order_of : List ℕ → Option Order
-order_of bytes = if number4 bytes 0 == header_kind then order_of_magic (number4 bytes 8) else None
+abbrev pub order_of_magic : ℕ → Result (Option Order) Reason
+order_of_magic magic =
+    if magic == 0x1a2b3c4d then Ok (Some Big)
+    else if magic == 0x4d3c2b1a then Ok (Some Little)
+    else Err Malformed
 
--- A section of major version 1 begins.
-abbrev pub header_in : Order → (block : List ℕ) → Option Block
-header_in order block =
-    if nat_lt (length block) 28 || not (number2_in order block 12 == 1) then None
-    else Some (Section order)
+-- the order of the numbers of a section that begins with these bytes; none where another block does
+unfoldable pub order_of : List ℕ → Result (Option Order) Reason
+order_of bytes = do
+  kind ← field Big w32 bytes
+  size ← field Big w32 kind.1
+  magic ← field Big w32 size.1
+  if kind.0 == header_kind then order_of_magic magic.0 else Ok None
 
--- ---- Interface Description Block (type 1): LinkType, 2 bytes that say nothing, SnapLen, and options
+-- A section of major version 1 begins: Byte-Order Magic, Major Version, and Minor Version and Section Length.
+unfoldable pub header_in : Order → (body : List ℕ) → Result Block Reason
+header_in order body = do
+  magic ← cut 4 body
+  major ← field order w16 magic.1
+  others ← cut 10 major.1
+  if major.0 == 1 then Ok (Section order) else Err Malformed
 
-abbrev pub interface_of : Order → (block : List ℕ) → Interface
-interface_of order block = record {
-  link = link_of (number2_in order block 8);
-  limit = number4_in order block 12;
-  per_second = per_second_in order (take (length block - 20) (drop 16 block));
-}
+-- ---- Interface Description Block (type 1): LinkType, Reserved, SnapLen, and Options
 
-abbrev pub interface_in : Order → (block : List ℕ) → Option Block
-interface_in order block =
-    if nat_lt (length block) 20 then None
-    else Some (Describes (interface_of order block))
+unfoldable pub interface_in : Order → (body : List ℕ) → Result Block Reason
+interface_in order body = do
+  link ← field order w16 body
+  reserved ← field order w16 link.1
+  limit ← field order w32 reserved.1
+  Ok (Describes (record { link = link_of link.0; limit = limit.0; per_second = per_second_in order limit.1 }))
 
 -- ---- Simple Packet Block (type 3): Original Packet Length, and Packet Data
 
-abbrev pub simple_in : Order → (block : List ℕ) → Option Block
-simple_in order block =
-    if nat_lt (length block) 16 then None
-    else Some (Simple (number4_in order block 8) (take (length block - 16) (drop 12 block)))
+unfoldable pub simple_in : Order → (body : List ℕ) → Result Block Reason
+simple_in order body = do
+  size ← field order w32 body
+  Ok (Simple size.0 size.1)
 
 -- ---- Enhanced Packet Block (type 6): Interface ID, both halves of the time, Captured Packet Length, Original Packet
 -- ---- Length, and Packet Data
 
-abbrev pub enhanced_in : Order → (block : List ℕ) → Option Block
-enhanced_in order block =
-    if nat_lt (length block) 32 || nat_lt (length block - 32) (number4_in order block 20) then None
-    else Some (Captured (record {
-      interface = number4_in order block 8;
-      ticks = Units (number4_in order block 12) (number4_in order block 16);
-      size = number4_in order block 24;
-      bytes = take (number4_in order block 20) (drop 28 block);
-    }))
+unfoldable pub enhanced_in : Order → (body : List ℕ) → Result Block Reason
+enhanced_in order body = do
+  interface ← field order w32 body
+  upper ← field order w32 interface.1
+  lower ← field order w32 upper.1
+  captured ← field order w32 lower.1
+  size ← field order w32 captured.1
+  packet ← cut captured.0 size.1
+  Ok (Captured
+      (record { interface = interface.0; ticks = Units upper.0 lower.0; size = size.0; bytes = packet.0 }))
 
--- ---- a block (General Block Structure): its type, its length, and at its end its length again
+-- ---- a block (General Block Structure): its type, its length, its body, and its length again
 
--- what a block tells, from its type to its end, if it is well formed
-abbrev pub told_in : Order → (block : List ℕ) → Option Block
-told_in order block =
-    if number4_in order block 0 == header_kind then header_in order block
-    else if number4_in order block 0 == 1 then interface_in order block
-    else if number4_in order block 0 == 3 then simple_in order block
-    else if number4_in order block 0 == 6 then enhanced_in order block
-    else Some Other
+-- what a block of this type tells by its body
+abbrev pub told_in : Order → (kind : ℕ) → (body : List ℕ) → Result Block Reason
+told_in order kind body =
+    if kind == header_kind then header_in order body
+    else if kind == 1 then interface_in order body
+    else if kind == 3 then simple_in order body
+    else if kind == 6 then enhanced_in order body
+    else Ok Other
 
 -- A length is a multiple of four, of 12 at least.
 abbrev pub is_length : ℕ → Bool
 is_length size = not (nat_lt size 12) && size % 4 == 0
 
--- the length of the block with which the bytes begin
-abbrev pub length_in : Order → List ℕ → Result ℕ Reason
-length_in order bytes =
-    if not (is_length (number4_in order bytes 4)) then Err Malformed
-    else if nat_lt (length bytes) (number4_in order bytes 4) then Err CutShort
-    else if number4_in order (drop (number4_in order bytes 4 - 4) bytes) 0 == number4_in order bytes 4
-    then Ok (number4_in order bytes 4)
-    else Err Malformed
+abbrev pub framed : (size : ℕ) → Result Block Reason → Read
+framed size (Err reason) = Err Malformed
+framed size (Ok block) = Ok (record { block = block; size = size })
 
-abbrev pub framed : (size : ℕ) → Option Block → Read
-framed size None = Err Malformed
-framed size (Some block) = Ok (record { block = block; size = size })
+unfoldable pub block_by : Order → List ℕ → Read
+block_by order bytes = do
+  kind ← field order w32 bytes
+  size ← field order w32 kind.1
+  if not (is_length size.0) then Err Malformed else do
+    body ← cut (size.0 - 12) size.1
+    again ← field order w32 body.1
+    if again.0 == size.0 then framed size.0 (told_in order kind.0 body.0) else Err Malformed
 
-abbrev pub block_sized : Order → Result ℕ Reason → List ℕ → Read
-block_sized order (Err reason) bytes = Err reason
-block_sized order (Ok size) bytes = framed size (told_in order (take size bytes))
-
-abbrev pub block_by : Option Order → List ℕ → Read
-block_by None bytes = Err Malformed
-block_by (Some order) bytes = block_sized order (length_in order bytes) bytes
-
--- The numbers of a Section Header Block are in its own order, those of others in the section's.
-abbrev pub order_at : (section : Order) → List ℕ → Option Order
-order_at section bytes = if number4 bytes 0 == header_kind then order_of bytes else Some section
-
--- the block with which the bytes begin, in a section whose numbers are in this order
-unfoldable pub block_in : (section : Order) → List ℕ → Read
-block_in section bytes =
-    if nat_lt (length bytes) 12 then Err CutShort
-    else block_by (order_at section bytes) bytes
+-- The block with which the bytes begin, in a section whose numbers are in this order. A Section Header Block's are in
+-- its own.
+abbrev pub block_in : (section : Order) → List ℕ → Read
+block_in section bytes = do
+  order ← order_of bytes
+  block_by (unwrap_or order section) bytes

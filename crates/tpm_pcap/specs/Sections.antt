@@ -53,5 +53,5 @@ packet_time s p = time_on (slice_get s.interfaces p.interface) p.ticks
 
 -- what a packet carries, of a simulator on this port
 abbrev pub carried_of : (port : ℕ) → Section → Packet → Carried
-carried_of port s p = carried_by (link_of_interface (slice_get s.interfaces p.interface))
-    (record { port = port; whole = length p.bytes == p.size }) p.bytes
+carried_of port s p =
+    carried_by (link_of_interface (slice_get s.interfaces p.interface)) port (length p.bytes == p.size) p.bytes

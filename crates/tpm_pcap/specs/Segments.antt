@@ -1,10 +1,11 @@
 -- Segments of TCP on the port of a simulator (RFC 9293, 3.1; RFC 791, 3.1; RFC 8200, 3 and 4.5).
-use Rattle.std.specs.Prelude.{ℕ, ◌-◌, ◌*◌, ◌/◌, ◌%◌, ◌==◌, ◌||◌, nat_lt, not, Bool, true, false, List, length}
-use Rattle.std.specs.Prelude.{take, drop, slice_index, Option, Some, None, if◌then◌else◌}
+use Rattle.std.specs.Prelude.{ℕ, ◌-◌, ◌*◌, ◌/◌, ◌%◌, ◌==◌, ◌||◌, ◌&&◌, nat_lt, not, Bool, List, length, take, drop}
+use Rattle.std.specs.Prelude.{slice_index, Option, Some, None, Result, Ok, Err, if◌then◌else◌}
+use Rattle.tpm_pcap.specs.declared.entry.Reason.TheVariants.{CutShort}
+use Rattle.tpm_pcap.specs.declared.entry.Reason.{Reason}
 use Rattle.tpm_pcap.specs.declared.link.Link.{Link}
-use Rattle.tpm_pcap.specs.declared.segment.Sought.{Sought}
 use Rattle.tpm_pcap.specs.Links.{head_size, carries_internet}
-use Rattle.tpm_pcap.specs.Numbers.{number2, number4}
+use Rattle.tpm_pcap.specs.Numbers.{number2, number4, ◌>>=◌, cut}
 
 -- a segment on the port: whether it goes to the TPM, the addresses of the client and of the simulator, the client's
 -- port, the number of its first byte, whether it opens its way of the connection, how many bytes it carries, and those
@@ -27,91 +28,76 @@ pub data Carried : Type 0 where
   UnknownLink : Carried
   OnPort : Segment → Carried
 
--- the addresses of a packet
-pub record Ends : Type 0 where
-  pub source : List ℕ
-  pub target : List ℕ
-
--- The packet ends before a header does. So it is, or so it was captured.
-abbrev pub lacking : (whole : Bool) → Carried
-lacking true = Other
-lacking false = Lacking
-
 -- ---- TCP
 
--- SYN, of the control bits
-abbrev pub opens : ℕ → Bool
-opens flags = (flags / 2) % 2 == 1
-
--- Data Offset: how many bytes the header has
-abbrev pub tcp_head : List ℕ → ℕ
-tcp_head tcp = (slice_index tcp 12 / 16) * 4
-
--- the segment on this port that carries so many bytes
-abbrev pub segment_of : (port : ℕ) → Ends → (size : ℕ) → (tcp : List ℕ) → Segment
-segment_of port ends size tcp = record {
-  to_tpm = number2 tcp 2 == port;
-  client = if number2 tcp 2 == port then ends.source else ends.target;
-  simulator = if number2 tcp 2 == port then ends.target else ends.source;
-  port = if number2 tcp 2 == port then number2 tcp 0 else number2 tcp 2;
-  number = number4 tcp 4;
-  opens = opens (slice_index tcp 13);
-  size = size;
-  payload = take size (drop (tcp_head tcp) tcp);
-}
-
-abbrev pub is_on_port : (port : ℕ) → List ℕ → Bool
-is_on_port port tcp = number2 tcp 0 == port || number2 tcp 2 == port
-
--- in so many bytes of TCP, of which these were captured
-unfoldable pub in_tcp : Sought → Ends → (size : ℕ) → List ℕ → Carried
-in_tcp sought ends size tcp =
-    if nat_lt (length tcp) 20 then lacking sought.whole
-    else if not (is_on_port sought.port tcp) then Other
-    else if nat_lt (tcp_head tcp) 20 || nat_lt size (tcp_head tcp) then Other
-    else OnPort (segment_of sought.port ends (size - tcp_head tcp) tcp)
+-- in so many bytes between these addresses, of which these were captured: Source Port, Destination Port, Sequence
+-- Number, Acknowledgment Number, Data Offset, the control bits, of which the second is SYN, and six bytes more
+unfoldable pub in_tcp : (port : ℕ) → (source target : List ℕ) → (size : ℕ) → (tcp : List ℕ) → Result Carried Reason
+in_tcp port source target size tcp = do
+  fields ← cut 20 tcp
+  let source_port = number2 fields.0 0 in
+      let target_port = number2 fields.0 2 in
+      let head = slice_index fields.0 12 / 16 * 4 in
+      if not (target_port == port) && not (source_port == port) then Ok Other
+      else if nat_lt head 20 || nat_lt size head then Ok Other
+      else Ok (OnPort (record {
+        to_tpm = target_port == port;
+        client = if target_port == port then source else target;
+        simulator = if target_port == port then target else source;
+        port = if target_port == port then source_port else target_port;
+        number = number4 fields.0 4;
+        opens = slice_index fields.0 13 / 2 % 2 == 1;
+        size = size - head;
+        payload = take (size - head) (drop head tcp);
+      }))
 
 -- ---- IP
 
--- in a packet of IPv4: Protocol is TCP, it is no fragment (More Fragments and Fragment Offset are 0), and Total Length
--- says how many bytes it has
-unfoldable pub in_version4 : Sought → List ℕ → Carried
-in_version4 sought bytes =
-    if nat_lt (length bytes) 20 then lacking sought.whole
-    else if not (slice_index bytes 9 == 6) then Other
-    else if not (number2 bytes 6 % 16384 == 0) then Fragment
-    else in_tcp sought (record { source = take 4 (drop 12 bytes); target = take 4 (drop 16 bytes) })
-    (number2 bytes 2 - (slice_index bytes 0 % 16) * 4) (drop ((slice_index bytes 0 % 16) * 4) bytes)
+-- in a packet of IPv4: Version and Internet Header Length, Type of Service, Total Length, Identification, Flags and
+-- Fragment Offset, Time to Live, Protocol, and Header Checksum, and behind these both addresses
+unfoldable pub in_version4 : (port : ℕ) → List ℕ → Result Carried Reason
+in_version4 port bytes = do
+  fields ← cut 12 bytes
+  source ← cut 4 fields.1
+  target ← cut 4 source.1
+  let head = slice_index fields.0 0 % 16 * 4 in
+      if not (slice_index fields.0 9 == 6) then Ok Other
+      else if not (number2 fields.0 6 % 16384 == 0) then Ok Fragment
+      else in_tcp port source.0 target.0 (number2 fields.0 2 - head) (drop head bytes)
 
--- a fragment of IPv6, by the protocol of what it is a part of
-abbrev pub fragment : ℕ → Carried
-fragment protocol = if protocol == 6 then Fragment else Other
+-- in a packet of IPv6: Version, Traffic Class and Flow Label, Payload Length, Next Header, which is TCP or a fragment,
+-- perhaps of that, and Hop Limit, and behind these both addresses
+unfoldable pub in_version6 : (port : ℕ) → List ℕ → Result Carried Reason
+in_version6 port bytes = do
+  fields ← cut 8 bytes
+  source ← cut 16 fields.1
+  target ← cut 16 source.1
+  if slice_index fields.0 6 == 6 then in_tcp port source.0 target.0 (number2 fields.0 4) target.1
+      else if slice_index fields.0 6 == 44 && slice_index target.1 0 == 6 then Ok Fragment
+      else Ok Other
 
--- in a packet of IPv6: Next Header is TCP, or a fragment of that
-unfoldable pub in_version6 : Sought → List ℕ → Carried
-in_version6 sought bytes =
-    if nat_lt (length bytes) 40 then lacking sought.whole
-    else if slice_index bytes 6 == 44 then fragment (slice_index bytes 40)
-    else if not (slice_index bytes 6 == 6) then Other
-    else in_tcp sought (record { source = take 16 (drop 8 bytes); target = take 16 (drop 24 bytes) }) (number2 bytes 4)
-    (drop 40 bytes)
-
-unfoldable pub in_internet : Sought → List ℕ → Carried
-in_internet sought bytes =
-    if slice_index bytes 0 / 16 == 4 then in_version4 sought bytes
-    else if slice_index bytes 0 / 16 == 6 then in_version6 sought bytes
-    else if length bytes == 0 then lacking sought.whole
-    else Other
+-- by its Version
+unfoldable pub in_internet : (port : ℕ) → List ℕ → Result Carried Reason
+in_internet port bytes =
+    if length bytes == 0 then Err CutShort
+    else if slice_index bytes 0 / 16 == 4 then in_version4 port bytes
+    else if slice_index bytes 0 / 16 == 6 then in_version6 port bytes
+    else Ok Other
 
 -- ---- a packet
 
--- in a packet of this kind of link, all of which was captured or not
-unfoldable pub carried_in : Link → Sought → List ℕ → Carried
-carried_in link sought bytes =
-    if nat_lt (length bytes) (head_size link) then lacking sought.whole
-    else if not (carries_internet link bytes) then Other
-    else in_internet sought (drop (head_size link) bytes)
+-- in a packet of this kind of link
+unfoldable pub carried_in : Link → (port : ℕ) → List ℕ → Result Carried Reason
+carried_in link port bytes = do
+  head ← cut (head_size link) bytes
+  if carries_internet link head.0 then in_internet port head.1 else Ok Other
 
-abbrev pub carried_by : Option Link → Sought → List ℕ → Carried
-carried_by None sought bytes = UnknownLink
-carried_by (Some link) sought bytes = carried_in link sought bytes
+-- A packet that ends before a header does is none of the port, or it was captured so.
+abbrev pub found : (whole : Bool) → Result Carried Reason → Carried
+found whole (Ok carried) = carried
+found whole (Err reason) = if whole then Other else Lacking
+
+-- all of it was captured or not
+abbrev pub carried_by : Option Link → (port : ℕ) → (whole : Bool) → List ℕ → Carried
+carried_by None port whole bytes = UnknownLink
+carried_by (Some link) port whole bytes = found whole (carried_in link port bytes)

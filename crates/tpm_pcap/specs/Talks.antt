@@ -6,7 +6,7 @@ use Rattle.tpm_pcap.specs.declared.entry.Reason.TheVariants as reasons
 use Rattle.tpm_pcap.specs.declared.entry.Stamp.{Stamp}
 use Rattle.tpm_pcap.specs.Entries.{Entry, Connection, Untold}
 use Rattle.tpm_pcap.specs.Segments.{Carried, Other, Lacking, Fragment, UnknownLink, OnPort, Segment}
-use Rattle.tpm_pcap.specs.Ways.{Way, new_way, after_segment, segment_told}
+use Rattle.tpm_pcap.specs.Ways.{Way, new_way, after_segment}
 
 -- the client's address, the simulator's and the client's port, and both ways
 pub record Talk : Type 0 where
@@ -35,37 +35,26 @@ unfinished packet t =
     if not (length t.to.held == 0) || not (length t.back.held == 0) then Untold packet reasons.Unfinished ∷ []
     else []
 
--- ---- a segment of the connection
+-- ---- what comes of the connection, and what is told there
 
-abbrev pub after_same : Talk → Segment → Talk
-after_same t s =
-    if s.to_tpm then record t { to = after_segment t.to s } else record t { back = after_segment t.back s }
+-- a segment of it
+abbrev pub after_same : Stamp → Talk → Segment → Talk × List Entry
+after_same stamp t s =
+    let to = after_segment stamp t.to s in
+    let back = after_segment stamp t.back s in
+    if s.to_tpm then (record t { to = to.0 }, to.1) else (record t { back = back.0 }, back.1)
 
-abbrev pub same_told : Stamp → Talk → Segment → List Entry
-same_told stamp t s = if s.to_tpm then segment_told stamp t.to s else segment_told stamp t.back s
+-- a segment of any
+abbrev pub after_matter : Stamp → Talk → Segment → Talk × List Entry
+after_matter stamp t s =
+    let begun = after_same stamp (talk_of s) s in
+    if is_same t s then after_same stamp t s
+    else (begun.0, unfinished stamp.packet t ++ (Connection ∷ begun.1))
 
--- ---- a segment of any connection
-
-abbrev pub after_matter : Talk → Segment → Talk
-after_matter t s = if is_same t s then after_same t s else after_same (talk_of s) s
-
-abbrev pub matter_told : Stamp → Talk → Segment → List Entry
-matter_told stamp t s =
-    if is_same t s then same_told stamp t s
-    else unfinished stamp.packet t ++ (Connection ∷ same_told stamp (talk_of s) s)
-
--- ---- a packet
-
-abbrev pub after_carried : Talk → Carried → Talk
-after_carried t Other = t
-after_carried t Lacking = t
-after_carried t Fragment = t
-after_carried t UnknownLink = t
-after_carried t (OnPort s) = if matters s then after_matter t s else t
-
-abbrev pub carried_told : Stamp → Talk → Carried → List Entry
-carried_told stamp t Other = []
-carried_told stamp t Lacking = Untold stamp.packet reasons.CutShort ∷ []
-carried_told stamp t Fragment = Untold stamp.packet reasons.Fragment ∷ []
-carried_told stamp t UnknownLink = Untold stamp.packet reasons.UnknownLink ∷ []
-carried_told stamp t (OnPort s) = if matters s then matter_told stamp t s else []
+-- a packet
+abbrev pub after_carried : Stamp → Talk → Carried → Talk × List Entry
+after_carried stamp t Other = (t, [])
+after_carried stamp t Lacking = (t, Untold stamp.packet reasons.CutShort ∷ [])
+after_carried stamp t Fragment = (t, Untold stamp.packet reasons.Fragment ∷ [])
+after_carried stamp t UnknownLink = (t, Untold stamp.packet reasons.UnknownLink ∷ [])
+after_carried stamp t (OnPort s) = if matters s then after_matter stamp t s else (t, [])

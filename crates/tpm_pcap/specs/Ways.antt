@@ -21,40 +21,26 @@ pub record Way : Type 0 where
 abbrev pub new_way : Way
 new_way = record { next = None; held = []; lost = false }
 
--- ---- a byte
+-- ---- what comes of a way, and what is told there
 
-abbrev pub way_behind : Measure → Way → Way
-way_behind More w = w
-way_behind (Frame before size) w = record w { held = [] }
-way_behind Silent w = record w { held = [] }
-way_behind Broken w = record w { held = []; lost = true }
+-- a byte, with which what is held has this measure
+abbrev pub after_measure : (to_tpm : Bool) → Stamp → Way → Measure → Way × List Entry
+after_measure to_tpm stamp w More = (w, [])
+after_measure to_tpm stamp w (Frame before size) =
+    (record w { held = [] }, frame_entry to_tpm stamp (take size (drop before w.held)) ∷ [])
+after_measure to_tpm stamp w Silent = (record w { held = [] }, [])
+after_measure to_tpm stamp w Broken = (record w { held = []; lost = true }, Untold stamp.packet NoMessage ∷ [])
 
-abbrev pub measure_told : (to_tpm : Bool) → Stamp → Measure → List ℕ → List Entry
-measure_told to_tpm stamp More held = []
-measure_told to_tpm stamp (Frame before size) held = frame_entry to_tpm stamp (take size (drop before held)) ∷ []
-measure_told to_tpm stamp Silent held = []
-measure_told to_tpm stamp Broken held = Untold stamp.packet NoMessage ∷ []
+unfoldable pub after_byte : (to_tpm : Bool) → Stamp → Way → ℕ → Way × List Entry
+after_byte to_tpm stamp w byte =
+    if w.lost then (w, [])
+    else after_measure to_tpm stamp (record w { held = w.held ++ byte ∷ [] }) (measured to_tpm (w.held ++ byte ∷ []))
 
-unfoldable pub after_byte : (to_tpm : Bool) → Way → ℕ → Way
-after_byte to_tpm w byte =
-    if w.lost then w
-    else way_behind (measured to_tpm (w.held ++ byte ∷ [])) (record w { held = w.held ++ byte ∷ [] })
-
-unfoldable pub byte_told : (to_tpm : Bool) → Stamp → Way → ℕ → List Entry
-byte_told to_tpm stamp w byte =
-    if w.lost then []
-    else measure_told to_tpm stamp (measured to_tpm (w.held ++ byte ∷ [])) (w.held ++ byte ∷ [])
-
--- ---- bytes
-
-abbrev pub after_bytes : (to_tpm : Bool) → Way → List ℕ → Way
-after_bytes to_tpm w [] = w
-after_bytes to_tpm w (byte ∷ bytes) = after_bytes to_tpm (after_byte to_tpm w byte) bytes
-
-abbrev pub bytes_told : (to_tpm : Bool) → Stamp → Way → List ℕ → List Entry
-bytes_told to_tpm stamp w [] = []
-bytes_told to_tpm stamp w (byte ∷ bytes) =
-    byte_told to_tpm stamp w byte ++ bytes_told to_tpm stamp (after_byte to_tpm w byte) bytes
+abbrev pub after_bytes : (to_tpm : Bool) → Stamp → Way → List ℕ → Way × List Entry
+after_bytes to_tpm stamp w [] = (w, [])
+after_bytes to_tpm stamp w (byte ∷ bytes) =
+    let first = after_byte to_tpm stamp w byte in
+    let others = after_bytes to_tpm stamp first.0 bytes in (others.0, first.1 ++ others.1)
 
 -- ---- a segment
 
@@ -82,33 +68,18 @@ resumed next = record { next = Some next; held = []; lost = false }
 abbrev pub begun : Way → Segment → Way
 begun w s = record { next = Some (behind s); held = w.held; lost = false }
 
-abbrev pub after_captured : Way → Segment → Way
-after_captured w s =
-    if nat_lt (length s.payload) s.size then resumed (behind s)
-    else after_bytes s.to_tpm (begun w s) s.payload
+abbrev pub after_captured : Stamp → Way → Segment → Way × List Entry
+after_captured stamp w s =
+    if nat_lt (length s.payload) s.size then (resumed (behind s), Untold stamp.packet CutShort ∷ [])
+    else after_bytes s.to_tpm stamp (begun w s) s.payload
 
-abbrev pub captured_told : Stamp → Way → Segment → List Entry
-captured_told stamp w s =
-    if nat_lt (length s.payload) s.size then Untold stamp.packet CutShort ∷ []
-    else bytes_told s.to_tpm stamp (begun w s) s.payload
-
-abbrev pub after_placed : Placing → Way → Segment → Way
-after_placed InOrder w s = after_captured w s
-after_placed Before w s = w
-after_placed Ahead w s = resumed (behind s)
-
-abbrev pub placed_told : Stamp → Placing → Way → Segment → List Entry
-placed_told stamp InOrder w s = captured_told stamp w s
-placed_told stamp Before w s = Untold stamp.packet SentAgain ∷ []
-placed_told stamp Ahead w s = Untold stamp.packet OutOfOrder ∷ []
+abbrev pub after_placed : Stamp → Placing → Way → Segment → Way × List Entry
+after_placed stamp InOrder w s = after_captured stamp w s
+after_placed stamp Before w s = (w, Untold stamp.packet SentAgain ∷ [])
+after_placed stamp Ahead w s = (resumed (behind s), Untold stamp.packet OutOfOrder ∷ [])
 
 -- The segment that opens a way counts as one byte.
-unfoldable pub after_segment : Way → Segment → Way
-after_segment w s =
-    if s.opens then resumed (number_behind s.number 1)
-    else after_placed (place_of w.next s.number) w s
-
-unfoldable pub segment_told : Stamp → Way → Segment → List Entry
-segment_told stamp w s =
-    if s.opens then []
-    else placed_told stamp (place_of w.next s.number) w s
+unfoldable pub after_segment : Stamp → Way → Segment → Way × List Entry
+after_segment stamp w s =
+    if s.opens then (resumed (number_behind s.number 1), [])
+    else after_placed stamp (place_of w.next s.number) w s

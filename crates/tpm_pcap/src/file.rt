@@ -1,11 +1,13 @@
 //! What went over a port, by the blocks of a file of either format.
 
 ghost use Rattle.std.specs.Prelude.{◌≡◌, ◌≤◌, ◌<◌, ◌+◌, ◌^◌, ◌++◌, ℕ, List, length, IfOk, OnOk};
-ghost use Rattle.tpm_pcap.specs.inner.Blocks.{block_as, packet_as, read_as};
+ghost use Rattle.tpm_pcap.specs.inner.Blocks.{block_as, framed_as, packet_as};
 ghost use Rattle.tpm_pcap.specs.Entries.{Entry as SpecEntry, entries_as};
-ghost use Rattle.tpm_pcap.specs.Files.{after_block, after_packet, block_told, ended, most_told, next_in};
-ghost use Rattle.tpm_pcap.specs.Files.{packet_told, reader_of, TakesPiece};
+ghost use Rattle.tpm_pcap.specs.inner.Entries.{Tells};
+ghost use Rattle.tpm_pcap.specs.Files.{after_block, after_packet, ended, most_told, next_in, reader_of};
+ghost use Rattle.tpm_pcap.specs.Files.{TakesPiece};
 ghost use Rattle.tpm_pcap.specs.inner.Files.{may_go_on, reader_as, TakesBlocks};
+ghost use Rattle.tpm_pcap.specs.inner.Numbers.{read_by};
 ghost use Rattle.tpm_pcap.specs.inner.Sections.{section_as};
 
 use crate::block::{Block, Packet, Read};
@@ -83,11 +85,11 @@ impl Reader {
         entries: &mut Vec<Entry>,
     ) -> Result<(), AllocError>
         requires { self.old.packet + 1 < 2 ^ 64 }
-        ensures { OnOk result ((reader_as self.new
-            ≡ after_packet (reader_as self.old) (packet_as packet.now))
-            × (entries_as entries.new.items ≡ entries_as entries.old.items
-            ++ packet_told (reader_as self.old) (packet_as packet.now))
-            × (length (packet_told (reader_as self.old) (packet_as packet.now)) ≤ most_told)) }
+        ensures told { OnOk result (Tells
+            (after_packet (reader_as self.old) (packet_as packet.now))
+            (reader_as self.new) entries.old.items entries.new.items) }
+        ensures few { OnOk result
+            (length (after_packet (reader_as self.old) (packet_as packet.now)).1 ≤ most_told) }
     {
         let carried = self.section.carried_of(self.port, packet);
         let stamp = Stamp {
@@ -107,11 +109,11 @@ impl Reader {
         entries: &mut Vec<Entry>,
     ) -> Result<(), AllocError>
         requires { self.old.packet + 1 < 2 ^ 64 }
-        ensures { OnOk result ((reader_as self.new
-            ≡ after_block (reader_as self.old) (block_as block.now))
-            × (entries_as entries.new.items ≡ entries_as entries.old.items
-            ++ block_told (reader_as self.old) (block_as block.now))
-            × (length (block_told (reader_as self.old) (block_as block.now)) ≤ most_told)) }
+        ensures told { OnOk result (Tells
+            (after_block (reader_as self.old) (block_as block.now))
+            (reader_as self.new) entries.old.items entries.new.items) }
+        ensures few { OnOk result
+            (length (after_block (reader_as self.old) (block_as block.now)).1 ≤ most_told) }
     {
         match block {
             Block::Section(order) => {
@@ -142,7 +144,7 @@ impl Reader {
 
 // The block with which the bytes begin.
 fn next_in<'a>(format: Format, order: Order, bytes: &'a [u8]) -> Read<'a>
-    ensures value { read_as result ≡ next_in format order bytes.now }
+    ensures value { read_by framed_as result ≡ next_in format order bytes.now }
     ensures size { IfOk result (λ r. (0 < r.size) × (r.size ≤ length bytes.now)) }
 {
     match format {

@@ -8,9 +8,7 @@ ghost use Rattle.tpm_pcap.specs.inner.Sections.{section_as};
 use crate::block::Interface;
 use crate::file::{Format, PacketFile};
 use crate::link::{Link, link_of};
-use crate::numbers::{Order, number4_in};
 use crate::section::Section;
-use crate::segment::behind;
 use crate::{pcapng, savefile};
 use std::alloc::{AllocError, Global};
 
@@ -29,14 +27,14 @@ pub enum FileHead {
 }
 
 // The section that a file of libpcap is.
-fn on_link(order: Order, link: Link, per_second: u64) -> Section
-    ensures { section_as result ≡ on_link order link per_second }
+fn on_link(header: savefile::Header, link: Link) -> Section
+    ensures { section_as result ≡ on_link header link }
 {
-    let mut section = Section::new(order);
+    let mut section = Section::new(header.order);
     section.describe(Interface {
         link: Some(link),
         limit: 0,
-        per_second,
+        per_second: header.per_second,
     });
     section
 }
@@ -47,18 +45,14 @@ fn savefile_head(alloc: Global, head: &[u8], port: u16) -> Result<FileHead, Allo
         → head_as carried rest ≡ savefile_traffic port (head.now ++ rest)) }
     ensures few { IfOk result (BeginsFile (length head.now)) }
 {
-    if head.len() < HEAD {
-        return Ok(FileHead::NoCapture);
-    }
-    let Some(order) = savefile::order_of(head) else {
+    let Ok((header, packets)) = savefile::header_in(head) else {
         return Ok(FileHead::NoCapture);
     };
-    let number = number4_in(order, head, 20) % 65536;
-    let Some(link) = link_of(number) else {
-        return Ok(FileHead::OtherLink(number));
+    let Some(link) = link_of(header.link) else {
+        return Ok(FileHead::OtherLink(header.link));
     };
-    let section = on_link(order, link, savefile::per_second(head));
-    let file = PacketFile::new(alloc, Format::Savefile, port, section, behind(head, HEAD))?;
+    let section = on_link(header, link);
+    let file = PacketFile::new(alloc, Format::Savefile, port, section, packets)?;
     Ok(FileHead::Packets(file))
 }
 
@@ -100,7 +94,7 @@ pub fn read_head(alloc: Global, head: &[u8], port: u16) -> Result<FileHead, Allo
         → head_as carried rest ≡ traffic_in port (head.now ++ rest)) }
     ensures few { IfOk result (BeginsFile (length head.now)) }
 {
-    match pcapng::order_of(head) {
+    match pcapng::order_of(head).unwrap_or(None) {
         Some(order) => {
             let section = Section::new(order);
             let file = PacketFile::new(alloc, Format::Pcapng, port, section, head)?;

@@ -20,5 +20,4 @@ mod way;
 pub use entry::{Entry, Reason, Stamp};
 pub use file::PacketFile;
 pub use head::{FileHead, HEAD, read_head};
-pub use numbers::{number2, number4};
 pub use segment::behind;

@@ -1,9 +1,7 @@
 //! What stands before a packet of the internet.
 
-ghost use Rattle.std.specs.Prelude.{◌≡◌, ◌<◌};
+ghost use Rattle.std.specs.Prelude.{◌≡◌, length};
 ghost use Rattle.tpm_pcap.specs.Links.{link_of, head_size, is_internet, carries_internet};
-
-use crate::numbers::number2;
 
 /// A kind of link, by what stands before each packet of it (libpcap, "Link-layer header types").
 #[derive(Clone, Copy)]
@@ -47,20 +45,21 @@ pub(crate) fn head_size(link: Link) -> usize
     }
 }
 
-fn is_internet(kind: u32) -> bool
+fn is_internet(kind: u16) -> bool
     ensures { result ≡ is_internet kind }
 {
     kind == 0x0800 || kind == 0x86dd
 }
 
-/// Whether a packet of the internet stands behind.
-pub(crate) fn carries_internet(link: Link, bytes: &[u8]) -> bool
-    ensures { result ≡ carries_internet link bytes.now }
+/// Whether a packet of the internet stands behind this.
+pub(crate) fn carries_internet(link: Link, head: &[u8]) -> bool
+    requires { length head.now ≡ head_size link }
+    ensures { result ≡ carries_internet link head.now }
 {
-    match link {
-        Link::Raw | Link::Loopback => true,
-        Link::Ethernet => is_internet(number2(bytes, 12)),
-        Link::Cooked => is_internet(number2(bytes, 14)),
-        Link::Cooked2 => is_internet(number2(bytes, 0)),
+    match (link, head) {
+        (Link::Ethernet | Link::Cooked, [.., high, low]) | (Link::Cooked2, [high, low, ..]) => {
+            is_internet(u16::from_be_bytes([*high, *low]))
+        }
+        _ => true,
     }
 }

@@ -1,9 +1,7 @@
 //! What the bytes of a way of a connection are.
 
 ghost use Rattle.std.specs.Prelude.{◌≡◌, ◌≤◌};
-ghost use Rattle.tpm_pcap.specs.Messages.{is_tag, measured, of_size, bare, to_simulator, from_simulator};
-
-use crate::numbers::{number2, number4};
+ghost use Rattle.tpm_pcap.specs.Messages.{measured, of_size, bare, to_simulator, from_simulator};
 
 /// The greatest size of a frame.
 const MOST: usize = 4096;
@@ -19,12 +17,6 @@ pub(crate) enum Measure {
     Silent,
     /// The beginning of no message.
     Broken,
-}
-
-fn is_tag(tag: u32) -> bool
-    ensures { result ≡ is_tag tag }
-{
-    tag == 0x8001 || tag == 0x8002 || tag == 0x00c4
 }
 
 // A message of a frame of so many bytes, with bytes before it and behind.
@@ -46,10 +38,10 @@ fn of_size(before: usize, size: usize, behind: usize, held: &[u8]) -> Measure
 fn bare(held: &[u8]) -> Measure
     ensures { result ≡ bare held.now }
 {
-    if held.len() < 6 {
+    let [_, _, a, b, c, d, ..] = held else {
         return Measure::More;
-    }
-    let size = number4(held, 2) as usize;
+    };
+    let size = u32::from_be_bytes([*a, *b, *c, *d]) as usize;
     if size < 10 {
         return Measure::Broken;
     }
@@ -59,13 +51,15 @@ fn bare(held: &[u8]) -> Measure
 fn to_simulator(held: &[u8]) -> Measure
     ensures { result ≡ to_simulator held.now }
 {
-    if held.len() < 4 {
+    let [a, b, c, d, rest @ ..] = held else {
         return Measure::More;
-    }
-    match number4(held, 0) {
-        20 => Measure::Silent,
-        8 if held.len() < 9 => Measure::More,
-        8 => of_size(9, number4(held, 5) as usize, 0, held),
+    };
+    match (u32::from_be_bytes([*a, *b, *c, *d]), rest) {
+        (20, _) => Measure::Silent,
+        (8, [_, a, b, c, d, ..]) => {
+            of_size(9, u32::from_be_bytes([*a, *b, *c, *d]) as usize, 0, held)
+        }
+        (8, _) => Measure::More,
         _ => Measure::Broken,
     }
 }
@@ -73,10 +67,10 @@ fn to_simulator(held: &[u8]) -> Measure
 fn from_simulator(held: &[u8]) -> Measure
     ensures { result ≡ from_simulator held.now }
 {
-    if held.len() < 4 {
+    let [a, b, c, d, ..] = held else {
         return Measure::More;
-    }
-    of_size(4, number4(held, 0) as usize, 4, held)
+    };
+    of_size(4, u32::from_be_bytes([*a, *b, *c, *d]) as usize, 4, held)
 }
 
 /// What bytes of a way are, from the beginning of a message.
@@ -84,19 +78,13 @@ fn from_simulator(held: &[u8]) -> Measure
 pub(crate) fn measured(to_tpm: bool, held: &[u8]) -> Measure
     ensures { result ≡ measured to_tpm held.now }
 {
-    if held.len() < 2 {
+    let [high, low, ..] = held else {
         return Measure::More;
-    }
-    let begin = number2(held, 0);
-    if is_tag(begin) {
-        return bare(held);
-    }
-    if begin != 0 {
-        return Measure::Broken;
-    }
-    if to_tpm {
-        to_simulator(held)
-    } else {
-        from_simulator(held)
+    };
+    match u16::from_be_bytes([*high, *low]) {
+        0x8001 | 0x8002 | 0x00c4 => bare(held),
+        0 if to_tpm => to_simulator(held),
+        0 => from_simulator(held),
+        _ => Measure::Broken,
     }
 }

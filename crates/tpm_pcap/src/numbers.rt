@@ -1,7 +1,11 @@
-//! Numbers in a packet and in a file.
+//! The fields of a file, one behind the other.
 
-ghost use Rattle.std.specs.Prelude.{◌≡◌, ◌<◌, slice_index};
-ghost use Rattle.tpm_pcap.specs.Numbers.{low2, low4, number2, number2_in, number4, number4_in};
+ghost use Rattle.std.specs.Prelude.{◌≡◌, ◌+◌, length, IfOk};
+ghost use Rattle.std.specs.Int.{w16, w32};
+ghost use Rattle.tpm_pcap.specs.Numbers.{cut, field};
+ghost use Rattle.tpm_pcap.specs.inner.Numbers.{field_by};
+
+use crate::entry::Reason;
 
 /// The order of the bytes of a number.
 #[derive(Clone, Copy)]
@@ -12,66 +16,43 @@ pub(crate) enum Order {
     Little,
 }
 
-/// The byte at a place, and 0 past the end.
-pub(crate) fn byte_at(bytes: &[u8], at: usize) -> u8
-    ensures { result ≡ slice_index bytes.now at }
+/// The first bytes, `count` of them, and what is behind them.
+#[tactic(auto, unfolding(crate::specs::Numbers::cut))]
+pub(crate) fn cut(bytes: &[u8], count: usize) -> Result<(&[u8], &[u8]), Reason>
+    ensures value { field_by (λ front. front.now) result ≡ cut count bytes.now }
+    ensures size { IfOk result (λ x. (length x.0.now ≡ count) × (length x.1.now + count ≡ length bytes.now)) }
 {
-    match bytes.get(at) {
-        Some(byte) => *byte,
-        None => 0,
+    bytes.split_at_checked(count).ok_or(Reason::CutShort)
+}
+
+impl Order {
+    /// A number of two bytes, and what is behind it.
+    #[tactic(auto, unfolding(crate::specs::Numbers::cut, crate::specs::Numbers::field))]
+    pub(crate) fn u16(self, bytes: &[u8]) -> Result<(u16, &[u8]), Reason>
+        ensures value { field_by (λ n. n) result ≡ field self w16 bytes.now }
+        ensures size { IfOk result (λ x. length x.1.now + 2 ≡ length bytes.now) }
+    {
+        let Some((front, behind)) = bytes.split_first_chunk::<2>() else {
+            return Err(Reason::CutShort);
+        };
+        match self {
+            Order::Big => Ok((u16::from_be_bytes(*front), behind)),
+            Order::Little => Ok((u16::from_le_bytes(*front), behind)),
+        }
     }
-}
 
-/// Two bytes, the most significant first.
-pub fn number2(bytes: &[u8], at: usize) -> u32
-    requires { at < 65536 }
-    ensures value { result ≡ number2 bytes.now at }
-    ensures most { result < 65536 }
-{
-    byte_at(bytes, at) as u32 * 256 + byte_at(bytes, at + 1) as u32
-}
-
-/// Four bytes, the most significant first.
-pub fn number4(bytes: &[u8], at: usize) -> u32
-    requires { at < 65534 }
-    ensures { result ≡ number4 bytes.now at }
-{
-    number2(bytes, at) * 65536 + number2(bytes, at + 2)
-}
-
-fn low2(bytes: &[u8], at: usize) -> u32
-    requires { at < 65536 }
-    ensures value { result ≡ low2 bytes.now at }
-    ensures most { result < 65536 }
-{
-    byte_at(bytes, at) as u32 + byte_at(bytes, at + 1) as u32 * 256
-}
-
-fn low4(bytes: &[u8], at: usize) -> u32
-    requires { at < 65534 }
-    ensures { result ≡ low4 bytes.now at }
-{
-    low2(bytes, at) + low2(bytes, at + 2) * 65536
-}
-
-/// Two bytes in this order.
-pub(crate) fn number2_in(order: Order, bytes: &[u8], at: usize) -> u32
-    requires { at < 65534 }
-    ensures { result ≡ number2_in order bytes.now at }
-{
-    match order {
-        Order::Big => number2(bytes, at),
-        Order::Little => low2(bytes, at),
-    }
-}
-
-/// Four bytes in this order.
-pub(crate) fn number4_in(order: Order, bytes: &[u8], at: usize) -> u32
-    requires { at < 65534 }
-    ensures { result ≡ number4_in order bytes.now at }
-{
-    match order {
-        Order::Big => number4(bytes, at),
-        Order::Little => low4(bytes, at),
+    /// A number of four bytes, and what is behind it.
+    #[tactic(auto, unfolding(crate::specs::Numbers::cut, crate::specs::Numbers::field))]
+    pub(crate) fn u32(self, bytes: &[u8]) -> Result<(u32, &[u8]), Reason>
+        ensures value { field_by (λ n. n) result ≡ field self w32 bytes.now }
+        ensures size { IfOk result (λ x. length x.1.now + 4 ≡ length bytes.now) }
+    {
+        let Some((front, behind)) = bytes.split_first_chunk::<4>() else {
+            return Err(Reason::CutShort);
+        };
+        match self {
+            Order::Big => Ok((u32::from_be_bytes(*front), behind)),
+            Order::Little => Ok((u32::from_le_bytes(*front), behind)),
+        }
     }
 }

@@ -1,9 +1,11 @@
 //! The options of an interface in a pcapng file (IETF draft-ietf-opsawg-pcapng, "Options").
 
-ghost use Rattle.std.specs.Prelude.{◌≡◌};
-ghost use Rattle.tpm_pcap.specs.Options.{option_size, per_second_in, per_second_of};
+ghost use Rattle.std.specs.Prelude.{◌≡◌, ◌<◌, length, IfOk};
+ghost use Rattle.tpm_pcap.specs.inner.Numbers.{field_by};
+ghost use Rattle.tpm_pcap.specs.Options.{option_in, per_second_in, per_second_of};
 
-use crate::numbers::{Order, byte_at, number2_in};
+use crate::entry::Reason;
+use crate::numbers::Order;
 use crate::segment::behind;
 
 /// How many units of its times a second has where none is told.
@@ -21,11 +23,15 @@ fn per_second_of(resolution: u8) -> u64
     }
 }
 
-// How many bytes an option has.
-fn option_size(order: Order, options: &[u8]) -> usize
-    ensures { result ≡ option_size order options.now }
+// The code of the first option and how many bytes it has, and these and what is behind them.
+#[tactic(auto, unfolding(crate::specs::Options::option_in))]
+fn option_in(order: Order, options: &[u8]) -> Result<((u16, u16), &[u8]), Reason>
+    ensures value { field_by (λ option. option) result ≡ option_in order options.now }
+    ensures size { IfOk result (λ x. length x.1.now < length options.now) }
 {
-    4 + (number2_in(order, options, 2) as usize + 3) / 4 * 4
+    let (code, rest) = order.u16(options)?;
+    let (size, value) = order.u16(rest)?;
+    Ok(((code, size), value))
 }
 
 /// How many units of its times a second has, by the options of an interface; 0 where that is not known.
@@ -33,18 +39,18 @@ pub(crate) fn per_second_in(order: Order, options: &[u8]) -> u64
     ensures { result ≡ per_second_in order options.now }
 {
     let mut rest = options;
-    while rest.len() >= 4 {
-        let code = number2_in(order, rest, 0);
-        if code == 0 {
-            return MICROSECONDS;
+    while let Ok(((code, size), value)) = option_in(order, rest) {
+        match code {
+            0 => return MICROSECONDS,
+            9 => {
+                return match value {
+                    [resolution, ..] => per_second_of(*resolution),
+                    [] => per_second_of(0),
+                };
+            }
+            14 => return 0,
+            _ => rest = behind(value, (size as usize + 3) / 4 * 4),
         }
-        if code == 9 {
-            return per_second_of(byte_at(rest, 4));
-        }
-        if code == 14 {
-            return 0;
-        }
-        rest = behind(rest, option_size(order, rest));
     }
     MICROSECONDS
 }

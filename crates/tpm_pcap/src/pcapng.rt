@@ -1,16 +1,16 @@
 //! The blocks of a pcapng file (IETF draft-ietf-opsawg-pcapng).
 
-ghost use Rattle.std.specs.Prelude.{◌≡◌, ◌≤◌, ◌<◌, length, IfOk, option_map};
-ghost use Rattle.tpm_pcap.specs.inner.Blocks.{block_as, read_as};
-ghost use Rattle.tpm_pcap.specs.Pcapng.{block_in, enhanced_in, header_in, interface_in, is_length, length_in};
-ghost use Rattle.tpm_pcap.specs.Pcapng.{order_at, order_of, simple_in, told_in};
+ghost use Rattle.std.specs.Prelude.{◌≡◌, ◌≤◌, ◌<◌, length, IfOk};
+ghost use Rattle.tpm_pcap.specs.inner.Blocks.{block_as, framed_as};
+ghost use Rattle.tpm_pcap.specs.inner.Numbers.{read_by};
+ghost use Rattle.tpm_pcap.specs.Pcapng.{block_by, block_in, enhanced_in, header_in, interface_in, is_length};
+ghost use Rattle.tpm_pcap.specs.Pcapng.{order_of, simple_in, told_in};
 
 use crate::block::{Block, Framed, Interface, Packet, Read, Ticks};
 use crate::entry::Reason;
 use crate::link::link_of;
-use crate::numbers::{Order, number2_in, number4, number4_in};
+use crate::numbers::{Order, cut};
 use crate::options::per_second_in;
-use crate::segment::{behind, front};
 
 /// The type of a Section Header Block, which is the same in either order.
 const HEADER: u32 = 0x0a0d_0d0a;
@@ -24,81 +24,93 @@ const SIMPLE: u32 = 3;
 /// The type of an Enhanced Packet Block.
 const ENHANCED: u32 = 6;
 
-/// The fewest bytes of a block.
+/// The fewest bytes of a block: its type, and its length twice.
 const LEAST: usize = 12;
 
-/// The order of the numbers of a section that begins with these bytes, if they begin one.
-pub(crate) fn order_of(bytes: &[u8]) -> Option<Order>
+/// The order of the numbers of a section that begins with these bytes; none where another block does.
+#[tactic(auto, unfolding(crate::specs::Pcapng::order_of))]
+pub(crate) fn order_of(bytes: &[u8]) -> Result<Option<Order>, Reason>
     ensures { result ≡ order_of bytes.now }
 {
-    if number4(bytes, 0) != HEADER {
-        return None;
+    let (kind, rest) = Order::Big.u32(bytes)?;
+    let (_, rest) = Order::Big.u32(rest)?;
+    let (magic, _) = Order::Big.u32(rest)?;
+    if kind != HEADER {
+        return Ok(None);
     }
-    match number4(bytes, 8) {
-        0x1a2b_3c4d => Some(Order::Big),
-        0x4d3c_2b1a => Some(Order::Little),
-        _ => None,
+    match magic {
+        0x1a2b_3c4d => Ok(Some(Order::Big)),
+        0x4d3c_2b1a => Ok(Some(Order::Little)),
+        _ => Err(Reason::Malformed),
     }
 }
 
-// ---- what a block tells, if it is well formed
+// ---- what a block tells, if what it is to tell fits
 
-fn header_in<'a>(order: Order, block: &'a [u8]) -> Option<Block<'a>>
-    ensures { option_map block_as result ≡ header_in order block.now }
+#[tactic(auto, unfolding(crate::specs::Pcapng::header_in))]
+fn header_in<'a>(order: Order, body: &'a [u8]) -> Result<Block<'a>, Reason>
+    ensures { read_by block_as result ≡ header_in order body.now }
 {
-    if block.len() < 28 || number2_in(order, block, 12) != 1 {
-        return None;
+    // Byte-Order Magic, and behind the Major Version the Minor one and Section Length
+    let (_, rest) = cut(body, 4)?;
+    let (major, rest) = order.u16(rest)?;
+    cut(rest, 10)?;
+    if major == 1 {
+        Ok(Block::Section(order))
+    } else {
+        Err(Reason::Malformed)
     }
-    Some(Block::Section(order))
 }
 
-fn interface_in<'a>(order: Order, block: &'a [u8]) -> Option<Block<'a>>
-    ensures { option_map block_as result ≡ interface_in order block.now }
+#[tactic(auto, unfolding(crate::specs::Pcapng::interface_in))]
+fn interface_in<'a>(order: Order, body: &'a [u8]) -> Result<Block<'a>, Reason>
+    ensures { read_by block_as result ≡ interface_in order body.now }
 {
-    if block.len() < 20 {
-        return None;
-    }
-    Some(Block::Interface(Interface {
-        link: link_of(number2_in(order, block, 8)),
-        limit: number4_in(order, block, 12),
-        per_second: per_second_in(order, front(behind(block, 16), block.len() - 20)),
+    let (link, rest) = order.u16(body)?;
+    let (_, rest) = order.u16(rest)?;
+    let (limit, options) = order.u32(rest)?;
+    Ok(Block::Interface(Interface {
+        link: link_of(link as u32),
+        limit,
+        per_second: per_second_in(order, options),
     }))
 }
 
-fn simple_in<'a>(order: Order, block: &'a [u8]) -> Option<Block<'a>>
-    ensures { option_map block_as result ≡ simple_in order block.now }
+#[tactic(auto, unfolding(crate::specs::Pcapng::simple_in))]
+fn simple_in<'a>(order: Order, body: &'a [u8]) -> Result<Block<'a>, Reason>
+    ensures { read_by block_as result ≡ simple_in order body.now }
 {
-    if block.len() < 16 {
-        return None;
-    }
-    let room = front(behind(block, 12), block.len() - 16);
-    Some(Block::Simple(number4_in(order, block, 8), room))
+    let (size, room) = order.u32(body)?;
+    Ok(Block::Simple(size, room))
 }
 
-fn enhanced_in<'a>(order: Order, block: &'a [u8]) -> Option<Block<'a>>
-    ensures { option_map block_as result ≡ enhanced_in order block.now }
+#[tactic(auto, unfolding(crate::specs::Pcapng::enhanced_in))]
+fn enhanced_in<'a>(order: Order, body: &'a [u8]) -> Result<Block<'a>, Reason>
+    ensures { read_by block_as result ≡ enhanced_in order body.now }
 {
-    let count = number4_in(order, block, 20) as usize;
-    if block.len() < 32 || block.len() - 32 < count {
-        return None;
-    }
-    Some(Block::Packet(Packet {
-        interface: number4_in(order, block, 8),
-        ticks: Ticks::Units(number4_in(order, block, 12), number4_in(order, block, 16)),
-        size: number4_in(order, block, 24),
-        bytes: front(behind(block, 28), count),
+    let (interface, rest) = order.u32(body)?;
+    let (upper, rest) = order.u32(rest)?;
+    let (lower, rest) = order.u32(rest)?;
+    let (captured, rest) = order.u32(rest)?;
+    let (size, rest) = order.u32(rest)?;
+    let (bytes, _) = cut(rest, captured as usize)?;
+    Ok(Block::Packet(Packet {
+        interface,
+        ticks: Ticks::Units(upper, lower),
+        size,
+        bytes,
     }))
 }
 
-fn told_in<'a>(order: Order, block: &'a [u8]) -> Option<Block<'a>>
-    ensures { option_map block_as result ≡ told_in order block.now }
+fn told_in<'a>(order: Order, kind: u32, body: &'a [u8]) -> Result<Block<'a>, Reason>
+    ensures { read_by block_as result ≡ told_in order kind body.now }
 {
-    match number4_in(order, block, 0) {
-        HEADER => header_in(order, block),
-        INTERFACE => interface_in(order, block),
-        SIMPLE => simple_in(order, block),
-        ENHANCED => enhanced_in(order, block),
-        _ => Some(Block::Other),
+    match kind {
+        HEADER => header_in(order, body),
+        INTERFACE => interface_in(order, body),
+        SIMPLE => simple_in(order, body),
+        ENHANCED => enhanced_in(order, body),
+        _ => Ok(Block::Other),
     }
 }
 
@@ -110,51 +122,36 @@ fn is_length(size: usize) -> bool
     size >= LEAST && size % 4 == 0
 }
 
-// The length of the block with which the bytes begin.
-fn length_in(order: Order, bytes: &[u8]) -> Result<usize, Reason>
-    ensures value { result ≡ length_in order bytes.now }
-    ensures size { IfOk result (λ size. (12 ≤ size) × (size ≤ length bytes.now)) }
+// The block with which the bytes begin, whose numbers are in this order.
+#[tactic(auto, unfolding(crate::specs::Pcapng::block_by))]
+fn block_by<'a>(order: Order, bytes: &'a [u8]) -> Read<'a>
+    ensures value { read_by framed_as result ≡ block_by order bytes.now }
+    ensures size { IfOk result (λ r. (0 < r.size) × (r.size ≤ length bytes.now)) }
 {
-    let size = number4_in(order, bytes, 4) as usize;
-    if !is_length(size) {
+    let (kind, rest) = order.u32(bytes)?;
+    let (size, rest) = order.u32(rest)?;
+    if !is_length(size as usize) {
         return Err(Reason::Malformed);
     }
-    if bytes.len() < size {
-        return Err(Reason::CutShort);
+    let (body, rest) = cut(rest, size as usize - LEAST)?;
+    let (again, _) = order.u32(rest)?;
+    if again != size {
+        return Err(Reason::Malformed);
     }
-    if number4_in(order, behind(bytes, size - 4), 0) as usize == size {
-        Ok(size)
-    } else {
-        Err(Reason::Malformed)
-    }
-}
-
-// The order of the numbers of the block with which the bytes begin, in a section of this one.
-fn order_at(section: Order, bytes: &[u8]) -> Option<Order>
-    ensures { result ≡ order_at section bytes.now }
-{
-    if number4(bytes, 0) == HEADER {
-        order_of(bytes)
-    } else {
-        Some(section)
+    match told_in(order, kind, body) {
+        Ok(block) => Ok(Framed {
+            block,
+            size: size as usize,
+        }),
+        Err(_) => Err(Reason::Malformed),
     }
 }
 
 /// The block with which the bytes begin, in a section whose numbers are in this order.
-#[tactic(auto, unfolding(crate::specs::Pcapng::block_in))]
 pub(crate) fn block_in<'a>(section: Order, bytes: &'a [u8]) -> Read<'a>
-    ensures value { read_as result ≡ block_in section bytes.now }
+    ensures value { read_by framed_as result ≡ block_in section bytes.now }
     ensures size { IfOk result (λ r. (0 < r.size) × (r.size ≤ length bytes.now)) }
 {
-    if bytes.len() < LEAST {
-        return Err(Reason::CutShort);
-    }
-    let Some(order) = order_at(section, bytes) else {
-        return Err(Reason::Malformed);
-    };
-    let size = length_in(order, bytes)?;
-    match told_in(order, front(bytes, size)) {
-        Some(block) => Ok(Framed { block, size }),
-        None => Err(Reason::Malformed),
-    }
+    let order = order_of(bytes)?.unwrap_or(section);
+    block_by(order, bytes)
 }

@@ -9,7 +9,7 @@ ghost use Rattle.tpm_pcap.specs.inner.Segments.{carried_as, IsSmall};
 
 use crate::block::{Interface, Packet, Ticks};
 use crate::numbers::Order;
-use crate::segment::{Carried, Sought, carried_by, front};
+use crate::segment::{Carried, carried_by, front};
 use crate::time::time_of;
 use arrayvec::ArrayVec;
 
@@ -81,10 +81,7 @@ impl Section {
             Some(interface) => interface.link,
             None => None,
         };
-        let sought = Sought {
-            port,
-            whole: packet.bytes.len() == packet.size as usize,
-        };
-        carried_by(link, sought, packet.bytes)
+        let whole = packet.bytes.len() == packet.size as usize;
+        carried_by(link, port, whole, packet.bytes)
     }
 }

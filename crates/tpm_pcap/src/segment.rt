@@ -1,30 +1,13 @@
 //! Segments of TCP.
 
-ghost use Rattle.std.specs.Prelude.{◌≡◌, ◌<◌, take, drop};
-ghost use Rattle.tpm_pcap.specs.Segments.{fragment, carried_by, carried_in, in_internet, in_tcp};
-ghost use Rattle.tpm_pcap.specs.inner.Segments.{ends_as, carried_as};
-ghost use Rattle.tpm_pcap.specs.Segments.{in_version4, in_version6, is_on_port, lacking, opens};
-ghost use Rattle.tpm_pcap.specs.inner.Segments.{IsSmall, segment_as};
-ghost use Rattle.tpm_pcap.specs.Segments.{segment_of, tcp_head};
+ghost use Rattle.std.specs.Prelude.{◌≡◌, ◌<◌, take, drop, IfOk};
+ghost use Rattle.tpm_pcap.specs.Segments.{carried_by, carried_in, in_internet, in_tcp, in_version4, in_version6};
+ghost use Rattle.tpm_pcap.specs.inner.Segments.{carried_as, IsSmall};
+ghost use Rattle.tpm_pcap.specs.inner.Numbers.{read_by};
 
+use crate::entry::Reason;
 use crate::link::{Link, carries_internet, head_size};
-use crate::numbers::{byte_at, number2, number4};
-
-/// What is looked for in a packet.
-#[derive(Clone, Copy)]
-pub(crate) struct Sought {
-    /// The port of the simulator.
-    pub(crate) port: u16,
-    /// Whether all of the packet was captured.
-    pub(crate) whole: bool,
-}
-
-/// The addresses of a packet.
-#[derive(Drop, Clone, Copy)]
-pub(crate) struct Ends<'a> {
-    pub(crate) source: &'a [u8],
-    pub(crate) target: &'a [u8],
-}
+use crate::numbers::cut;
 
 /// A segment on the port.
 #[derive(Drop, Clone, Copy)]
@@ -36,7 +19,7 @@ pub(crate) struct Segment<'a> {
     /// The simulator's address.
     pub(crate) simulator: &'a [u8],
     /// The client's port.
-    pub(crate) port: u32,
+    pub(crate) port: u16,
     /// The number of its first byte.
     pub(crate) number: u32,
     /// Whether it opens its way of the connection.
@@ -62,71 +45,7 @@ pub(crate) enum Carried<'a> {
     Segment(Segment<'a>),
 }
 
-// What a packet is that ends before a header does.
-fn lacking<'a>(whole: bool) -> Carried<'a>
-    ensures carried { carried_as result ≡ lacking whole }
-    ensures small { IsSmall (carried_as result) }
-{
-    if whole {
-        Carried::Other
-    } else {
-        Carried::Lacking
-    }
-}
-
 // ---- TCP
-
-// Whether SYN is set.
-fn opens(flags: u8) -> bool
-    ensures { result ≡ opens flags }
-{
-    flags / 2 % 2 == 1
-}
-
-fn is_on_port(port: u16, tcp: &[u8]) -> bool
-    ensures { result ≡ is_on_port port tcp.now }
-{
-    number2(tcp, 0) == port as u32 || number2(tcp, 2) == port as u32
-}
-
-// How many bytes the header has.
-fn tcp_head(tcp: &[u8]) -> usize
-    ensures { result ≡ tcp_head tcp.now }
-{
-    byte_at(tcp, 12) as usize / 16 * 4
-}
-
-// The segment on this port that carries so many bytes.
-fn segment_of<'a>(port: u16, ends: Ends<'a>, size: usize, tcp: &'a [u8]) -> Segment<'a>
-    ensures { segment_as result ≡ segment_of port (ends_as ends.entry) size tcp.now }
-{
-    let number = number4(tcp, 4);
-    let opens = opens(byte_at(tcp, 13));
-    let payload = front(behind(tcp, tcp_head(tcp)), size);
-    if number2(tcp, 2) == port as u32 {
-        Segment {
-            to_tpm: true,
-            client: ends.source,
-            simulator: ends.target,
-            port: number2(tcp, 0),
-            number,
-            opens,
-            size,
-            payload,
-        }
-    } else {
-        Segment {
-            to_tpm: false,
-            client: ends.target,
-            simulator: ends.source,
-            port: number2(tcp, 2),
-            number,
-            opens,
-            size,
-            payload,
-        }
-    }
-}
 
 /// The first bytes, so many of them or all.
 pub(crate) fn front(bytes: &[u8], most: usize) -> &[u8]
@@ -150,126 +69,161 @@ pub fn behind(bytes: &[u8], count: usize) -> &[u8]
     }
 }
 
-// What is in so many bytes of TCP, of which these were captured.
+// What is in so many bytes of TCP between these addresses, of which these were captured.
 #[tactic(auto, unfolding(crate::specs::Segments::in_tcp))]
-fn in_tcp<'a>(sought: Sought, ends: Ends<'a>, size: usize, tcp: &'a [u8]) -> Carried<'a>
+fn in_tcp<'a>(
+    port: u16,
+    source: &'a [u8],
+    target: &'a [u8],
+    size: usize,
+    tcp: &'a [u8],
+) -> Result<Carried<'a>, Reason>
     requires { size < 65536 }
-    ensures carried { carried_as result ≡ in_tcp sought (ends_as ends.entry) size tcp.now }
-    ensures small { IsSmall (carried_as result) }
+    ensures carried { read_by carried_as result ≡ in_tcp port source.now target.now size tcp.now }
+    ensures small { IfOk result (λ carried. IsSmall (carried_as carried)) }
 {
-    if tcp.len() < 20 {
-        return lacking(sought.whole);
+    let (fields, _) = cut(tcp, 20)?;
+    // Source Port, Destination Port, Sequence Number, Acknowledgment Number, Data Offset, the control bits, Window,
+    // Checksum, and Urgent Pointer
+    let [
+        s0,
+        s1,
+        t0,
+        t1,
+        n0,
+        n1,
+        n2,
+        n3,
+        _,
+        _,
+        _,
+        _,
+        offset,
+        control,
+        ..
+    ] = fields
+    else {
+        return Err(Reason::CutShort);
+    };
+    let source_port = u16::from_be_bytes([*s0, *s1]);
+    let target_port = u16::from_be_bytes([*t0, *t1]);
+    let to_tpm = target_port == port;
+    let head = *offset as usize / 16 * 4;
+    if !to_tpm && source_port != port || head < 20 || size < head {
+        return Ok(Carried::Other);
     }
-    if !is_on_port(sought.port, tcp) {
-        return Carried::Other;
-    }
-    let head = tcp_head(tcp);
-    if head < 20 || size < head {
-        return Carried::Other;
-    }
-    Carried::Segment(segment_of(sought.port, ends, size - head, tcp))
+    let size = size - head;
+    let (client, simulator, port) = if to_tpm {
+        (source, target, source_port)
+    } else {
+        (target, source, target_port)
+    };
+    Ok(Carried::Segment(Segment {
+        to_tpm,
+        client,
+        simulator,
+        port,
+        number: u32::from_be_bytes([*n0, *n1, *n2, *n3]),
+        opens: *control / 2 % 2 == 1,
+        size,
+        payload: front(behind(tcp, head), size),
+    }))
 }
 
 // ---- IP
 
 // What is in a packet of IPv4.
 #[tactic(auto, unfolding(crate::specs::Segments::in_version4))]
-fn in_version4<'a>(sought: Sought, bytes: &'a [u8]) -> Carried<'a>
-    ensures carried { carried_as result ≡ in_version4 sought bytes.now }
-    ensures small { IsSmall (carried_as result) }
+fn in_version4<'a>(port: u16, bytes: &'a [u8]) -> Result<Carried<'a>, Reason>
+    ensures carried { read_by carried_as result ≡ in_version4 port bytes.now }
+    ensures small { IfOk result (λ carried. IsSmall (carried_as carried)) }
 {
-    if bytes.len() < 20 {
-        return lacking(sought.whole);
-    }
-    if byte_at(bytes, 9) != 6 {
-        return Carried::Other;
-    }
-    if number2(bytes, 6) % 16384 != 0 {
-        return Carried::Fragment;
-    }
-    let head = byte_at(bytes, 0) as usize % 16 * 4;
-    let size = (number2(bytes, 2) as usize).saturating_sub(head);
-    let ends = Ends {
-        source: &bytes[12..16],
-        target: &bytes[16..20],
+    let (fields, rest) = cut(bytes, 12)?;
+    let (source, rest) = cut(rest, 4)?;
+    let (target, _) = cut(rest, 4)?;
+    // Version and Internet Header Length, Type of Service, Total Length, Identification, Flags and Fragment Offset,
+    // Time to Live, Protocol, and Header Checksum
+    let [first, _, t0, t1, _, _, f0, f1, _, protocol, _, _] = fields else {
+        return Err(Reason::CutShort);
     };
-    in_tcp(sought, ends, size, behind(bytes, head))
-}
-
-// What a fragment of IPv6 is, by the protocol of what it is a part of.
-fn fragment<'a>(protocol: u8) -> Carried<'a>
-    ensures carried { carried_as result ≡ fragment protocol }
-    ensures small { IsSmall (carried_as result) }
-{
-    if protocol == 6 {
-        Carried::Fragment
-    } else {
-        Carried::Other
+    if *protocol != 6 {
+        return Ok(Carried::Other);
     }
+    if u16::from_be_bytes([*f0, *f1]) % 16384 != 0 {
+        return Ok(Carried::Fragment);
+    }
+    let head = *first as usize % 16 * 4;
+    let size = (u16::from_be_bytes([*t0, *t1]) as usize).saturating_sub(head);
+    in_tcp(port, source, target, size, behind(bytes, head))
 }
 
 // What is in a packet of IPv6.
 #[tactic(auto, unfolding(crate::specs::Segments::in_version6))]
-fn in_version6<'a>(sought: Sought, bytes: &'a [u8]) -> Carried<'a>
-    ensures carried { carried_as result ≡ in_version6 sought bytes.now }
-    ensures small { IsSmall (carried_as result) }
+fn in_version6<'a>(port: u16, bytes: &'a [u8]) -> Result<Carried<'a>, Reason>
+    ensures carried { read_by carried_as result ≡ in_version6 port bytes.now }
+    ensures small { IfOk result (λ carried. IsSmall (carried_as carried)) }
 {
-    if bytes.len() < 40 {
-        return lacking(sought.whole);
-    }
-    let next = byte_at(bytes, 6);
-    if next == 44 {
-        return fragment(byte_at(bytes, 40));
-    }
-    if next != 6 {
-        return Carried::Other;
-    }
-    let size = number2(bytes, 4) as usize;
-    let ends = Ends {
-        source: &bytes[8..24],
-        target: &bytes[24..40],
+    let (fields, rest) = cut(bytes, 8)?;
+    let (source, rest) = cut(rest, 16)?;
+    let (target, packet) = cut(rest, 16)?;
+    // Version, Traffic Class and Flow Label, Payload Length, Next Header, and Hop Limit
+    let [_, _, _, _, l0, l1, next, _] = fields else {
+        return Err(Reason::CutShort);
     };
-    in_tcp(sought, ends, size, behind(bytes, 40))
+    let size = u16::from_be_bytes([*l0, *l1]) as usize;
+    match (*next, packet) {
+        (6, _) => in_tcp(port, source, target, size, packet),
+        (44, [6, ..]) => Ok(Carried::Fragment),
+        _ => Ok(Carried::Other),
+    }
 }
 
 // What is in a packet of the internet.
 #[tactic(auto, unfolding(crate::specs::Segments::in_internet))]
-fn in_internet<'a>(sought: Sought, bytes: &'a [u8]) -> Carried<'a>
-    ensures carried { carried_as result ≡ in_internet sought bytes.now }
-    ensures small { IsSmall (carried_as result) }
+fn in_internet<'a>(port: u16, bytes: &'a [u8]) -> Result<Carried<'a>, Reason>
+    ensures carried { read_by carried_as result ≡ in_internet port bytes.now }
+    ensures small { IfOk result (λ carried. IsSmall (carried_as carried)) }
 {
-    match byte_at(bytes, 0) / 16 {
-        4 => in_version4(sought, bytes),
-        6 => in_version6(sought, bytes),
-        _ if bytes.is_empty() => lacking(sought.whole),
-        _ => Carried::Other,
+    match bytes {
+        [0x40..=0x4f, ..] => in_version4(port, bytes),
+        [0x60..=0x6f, ..] => in_version6(port, bytes),
+        [] => Err(Reason::CutShort),
+        _ => Ok(Carried::Other),
     }
 }
 
 // ---- a packet
 
-// What is in a packet of this kind of link, all of which was captured or not.
+// What is in a packet of this kind of link.
 #[tactic(auto, unfolding(crate::specs::Segments::carried_in))]
-fn carried_in<'a>(link: Link, sought: Sought, bytes: &'a [u8]) -> Carried<'a>
-    ensures carried { carried_as result ≡ carried_in link sought bytes.now }
-    ensures small { IsSmall (carried_as result) }
+fn carried_in<'a>(link: Link, port: u16, bytes: &'a [u8]) -> Result<Carried<'a>, Reason>
+    ensures carried { read_by carried_as result ≡ carried_in link port bytes.now }
+    ensures small { IfOk result (λ carried. IsSmall (carried_as carried)) }
 {
-    if bytes.len() < head_size(link) {
-        return lacking(sought.whole);
+    let (head, packet) = cut(bytes, head_size(link))?;
+    if carries_internet(link, head) {
+        in_internet(port, packet)
+    } else {
+        Ok(Carried::Other)
     }
-    if !carries_internet(link, bytes) {
-        return Carried::Other;
-    }
-    in_internet(sought, &bytes[head_size(link)..])
 }
 
-/// What is in a packet of this kind of link, if that is known.
-pub(crate) fn carried_by<'a>(link: Option<Link>, sought: Sought, bytes: &'a [u8]) -> Carried<'a>
-    ensures carried { carried_as result ≡ carried_by link sought bytes.now }
+/// What is in a packet of this kind of link, if that is known, all of which was captured or not.
+pub(crate) fn carried_by<'a>(
+    link: Option<Link>,
+    port: u16,
+    whole: bool,
+    bytes: &'a [u8],
+) -> Carried<'a>
+    ensures carried { carried_as result ≡ carried_by link port whole bytes.now }
     ensures small { IsSmall (carried_as result) }
 {
-    match link {
-        Some(link) => carried_in(link, sought, bytes),
-        None => Carried::UnknownLink,
+    let Some(link) = link else {
+        return Carried::UnknownLink;
+    };
+    match carried_in(link, port, bytes) {
+        Ok(carried) => carried,
+        Err(_) if whole => Carried::Other,
+        Err(_) => Carried::Lacking,
     }
 }

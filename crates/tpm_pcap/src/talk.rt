@@ -2,9 +2,10 @@
 
 ghost use Rattle.std.specs.Prelude.{◌≡◌, ◌<◌, ◌++◌, IfOk, OnOk};
 ghost use Rattle.tpm_pcap.specs.Entries.{entries_as};
+ghost use Rattle.tpm_pcap.specs.inner.Entries.{Tells};
 ghost use Rattle.tpm_pcap.specs.inner.Segments.{carried_as, segment_as, IsSmall};
-ghost use Rattle.tpm_pcap.specs.Talks.{after_carried, after_matter, after_same, carried_told, is_same};
-ghost use Rattle.tpm_pcap.specs.Talks.{matter_told, matters, new_talk, same_told, talk_of, unfinished};
+ghost use Rattle.tpm_pcap.specs.Talks.{after_carried, after_matter, after_same, is_same, matters};
+ghost use Rattle.tpm_pcap.specs.Talks.{new_talk, talk_of, unfinished};
 ghost use Rattle.tpm_pcap.specs.inner.Talks.{talk_as};
 
 use crate::entry::{Entry, Reason, Stamp};
@@ -17,7 +18,7 @@ use std::alloc::{AllocError, Global};
 pub(crate) struct Talk {
     client: Vec<u8>,
     simulator: Vec<u8>,
-    port: u32,
+    port: u16,
     to: Way,
     back: Way,
 }
@@ -85,10 +86,9 @@ impl Talk {
         entries: &mut Vec<Entry>,
     ) -> Result<(), AllocError>
         requires { segment.now.size < 65536 }
-        ensures { OnOk result ((talk_as self.new
-            ≡ after_same (talk_as self.old) (segment_as segment.now))
-            × (entries_as entries.new.items ≡ entries_as entries.old.items
-            ++ same_told stamp (talk_as self.old) (segment_as segment.now))) }
+        ensures { OnOk result (Tells
+            (after_same stamp (talk_as self.old) (segment_as segment.now))
+            (talk_as self.new) entries.old.items entries.new.items) }
     {
         if segment.to_tpm {
             self.to.segment(alloc, stamp, segment, entries)
@@ -106,10 +106,9 @@ impl Talk {
         entries: &mut Vec<Entry>,
     ) -> Result<(), AllocError>
         requires { segment.now.size < 65536 }
-        ensures { OnOk result ((talk_as self.new
-            ≡ after_matter (talk_as self.old) (segment_as segment.now))
-            × (entries_as entries.new.items ≡ entries_as entries.old.items
-            ++ matter_told stamp (talk_as self.old) (segment_as segment.now))) }
+        ensures { OnOk result (Tells
+            (after_matter stamp (talk_as self.old) (segment_as segment.now))
+            (talk_as self.new) entries.old.items entries.new.items) }
     {
         if self.is_same(segment) {
             return self.take_same(alloc, stamp, segment, entries);
@@ -129,10 +128,9 @@ impl Talk {
         entries: &mut Vec<Entry>,
     ) -> Result<(), AllocError>
         requires { IsSmall (carried_as carried.now) }
-        ensures { OnOk result ((talk_as self.new
-            ≡ after_carried (talk_as self.old) (carried_as carried.now))
-            × (entries_as entries.new.items ≡ entries_as entries.old.items
-            ++ carried_told stamp (talk_as self.old) (carried_as carried.now))) }
+        ensures { OnOk result (Tells
+            (after_carried stamp (talk_as self.old) (carried_as carried.now))
+            (talk_as self.new) entries.old.items entries.new.items) }
     {
         match carried {
             Carried::Other => Ok(()),

@@ -1,11 +1,11 @@
 //! One way of a connection.
 
 ghost use Rattle.std.specs.Prelude.{◌≡◌, ◌<◌, ◌==◌, ◌++◌, IfOk, OnOk, length, take, drop, not};
-ghost use Rattle.tpm_pcap.specs.Entries.{entry_as, entries_as, frame_entry};
+ghost use Rattle.tpm_pcap.specs.Entries.{entry_as, frame_entry};
+ghost use Rattle.tpm_pcap.specs.inner.Entries.{Tells};
 ghost use Rattle.tpm_pcap.specs.inner.Segments.{segment_as};
-ghost use Rattle.tpm_pcap.specs.Ways.{after_byte, after_bytes, after_captured, after_segment, byte_told};
-ghost use Rattle.tpm_pcap.specs.Ways.{bytes_told, captured_told, is_before, new_way, number_behind};
-ghost use Rattle.tpm_pcap.specs.Ways.{place_of, resumed, segment_told};
+ghost use Rattle.tpm_pcap.specs.Ways.{after_byte, after_bytes, after_captured, after_segment, is_before};
+ghost use Rattle.tpm_pcap.specs.Ways.{new_way, number_behind, place_of, resumed};
 ghost use Rattle.tpm_pcap.specs.inner.Ways.{way_as};
 
 use crate::entry::{Entry, Reason, Stamp};
@@ -100,7 +100,7 @@ impl Way {
     }
 
     // Takes the next byte.
-    #[tactic(auto, unfolding(crate::specs::Ways::after_byte, crate::specs::Ways::byte_told))]
+    #[tactic(auto, unfolding(crate::specs::Ways::after_byte))]
     fn take(
         &mut self,
         alloc: Global,
@@ -109,9 +109,8 @@ impl Way {
         byte: u8,
         entries: &mut Vec<Entry>,
     ) -> Result<(), AllocError>
-        ensures { OnOk result ((way_as self.new ≡ after_byte to_tpm (way_as self.old) byte)
-            × (entries_as entries.new.items
-            ≡ entries_as entries.old.items ++ byte_told to_tpm stamp (way_as self.old) byte)) }
+        ensures { OnOk result (Tells (after_byte to_tpm stamp (way_as self.old) byte)
+            (way_as self.new) entries.old.items entries.new.items) }
     {
         if self.lost {
             return Ok(());
@@ -147,10 +146,8 @@ impl Way {
         bytes: &[u8],
         entries: &mut Vec<Entry>,
     ) -> Result<(), AllocError>
-        ensures { OnOk result ((way_as self.new ≡ after_bytes to_tpm (way_as self.old) bytes.now)
-            × (entries_as entries.new.items
-            ≡ entries_as entries.old.items
-            ++ bytes_told to_tpm stamp (way_as self.old) bytes.now)) }
+        ensures { OnOk result (Tells (after_bytes to_tpm stamp (way_as self.old) bytes.now)
+            (way_as self.new) entries.old.items entries.new.items) }
     {
         for byte in bytes {
             self.take(alloc, to_tpm, stamp, *byte, entries)?;
@@ -176,10 +173,9 @@ impl Way {
         entries: &mut Vec<Entry>,
     ) -> Result<(), AllocError>
         requires { segment.now.size < 65536 }
-        ensures { OnOk result ((way_as self.new
-            ≡ after_captured (way_as self.old) (segment_as segment.now))
-            × (entries_as entries.new.items ≡ entries_as entries.old.items
-            ++ captured_told stamp (way_as self.old) (segment_as segment.now))) }
+        ensures { OnOk result (Tells
+            (after_captured stamp (way_as self.old) (segment_as segment.now))
+            (way_as self.new) entries.old.items entries.new.items) }
     {
         if segment.payload.len() < segment.size {
             self.resume(number_behind(segment.number, segment.size));
@@ -192,7 +188,7 @@ impl Way {
     }
 
     /// Takes a segment.
-    #[tactic(auto, unfolding(crate::specs::Ways::after_segment, crate::specs::Ways::segment_told))]
+    #[tactic(auto, unfolding(crate::specs::Ways::after_segment))]
     pub(crate) fn segment(
         &mut self,
         alloc: Global,
@@ -201,10 +197,9 @@ impl Way {
         entries: &mut Vec<Entry>,
     ) -> Result<(), AllocError>
         requires { segment.now.size < 65536 }
-        ensures { OnOk result ((way_as self.new
-            ≡ after_segment (way_as self.old) (segment_as segment.now))
-            × (entries_as entries.new.items ≡ entries_as entries.old.items
-            ++ segment_told stamp (way_as self.old) (segment_as segment.now))) }
+        ensures { OnOk result (Tells
+            (after_segment stamp (way_as self.old) (segment_as segment.now))
+            (way_as self.new) entries.old.items entries.new.items) }
     {
         if segment.opens {
             self.resume(number_behind(segment.number, 1));

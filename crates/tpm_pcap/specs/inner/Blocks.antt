@@ -1,11 +1,9 @@
 -- Blocks, as the code holds them.
-use Rattle.std.specs.Prelude.{Result, Ok, Err}
 use Rattle.tpm_pcap.specs.declared.block.Block.{Block as RustBlock}
 use Rattle.tpm_pcap.specs.declared.block.Framed.{Framed as RustFramed}
 use Rattle.tpm_pcap.specs.declared.block.Packet.{Packet as RustPacket}
-use Rattle.tpm_pcap.specs.declared.entry.Reason.{Reason}
 use Rattle.tpm_pcap.specs.declared.block.Block.TheVariants as rust
-use Rattle.tpm_pcap.specs.Blocks.{Packet, Block, Section, Describes, Captured, Simple, Other, Framed, Read}
+use Rattle.tpm_pcap.specs.Blocks.{Packet, Block, Section, Describes, Captured, Simple, Other, Framed}
 
 abbrev pub packet_as : RustPacket → Packet
 packet_as p = record { interface = p.interface; ticks = p.ticks; size = p.size; bytes = p.bytes.now }
@@ -19,7 +17,3 @@ block_as rust.Other = Other
 
 abbrev pub framed_as : RustFramed → Framed
 framed_as r = record { block = block_as r.block; size = r.size }
-
-abbrev pub read_as : Result RustFramed Reason → Read
-read_as (Ok r) = Ok (framed_as r)
-read_as (Err reason) = Err reason

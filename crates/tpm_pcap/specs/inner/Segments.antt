@@ -1,10 +1,9 @@
 -- Segments, as the code holds them.
 use Rattle.std.specs.Prelude.{◌<◌, length}
 use Rattle.tpm_pcap.specs.declared.segment.Carried.{Carried as RustCarried}
-use Rattle.tpm_pcap.specs.declared.segment.Ends.{Ends as RustEnds}
 use Rattle.tpm_pcap.specs.declared.segment.Segment.{Segment as RustSegment}
 use Rattle.tpm_pcap.specs.declared.segment.Carried.TheVariants as rust
-use Rattle.tpm_pcap.specs.Segments.{Segment, Carried, Other, Lacking, Fragment, UnknownLink, OnPort, Ends}
+use Rattle.tpm_pcap.specs.Segments.{Segment, Carried, Other, Lacking, Fragment, UnknownLink, OnPort}
 
 abbrev pub segment_as : RustSegment → Segment
 segment_as s = record {
@@ -24,9 +23,6 @@ carried_as rust.Lacking = Lacking
 carried_as rust.Fragment = Fragment
 carried_as rust.UnknownLink = UnknownLink
 carried_as (rust.Segment s) = OnPort (segment_as s)
-
-abbrev pub ends_as : RustEnds → Ends
-ends_as e = record { source = e.source.now; target = e.target.now }
 
 -- A packet of the internet has fewer than 2^16 bytes behind its header, and so many are captured of it.
 abbrev pub IsSmall : Carried → Type 0

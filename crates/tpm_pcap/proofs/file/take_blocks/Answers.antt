@@ -4,7 +4,7 @@ use Rattle.tpm_pcap.specs.declared.entry.Entry.TheVariants as rust
 use Rattle.tpm_pcap.specs.inner.Blocks.{framed_as}
 use Rattle.tpm_pcap.specs.inner.Files.{Come, may_go_on, reader_as}
 use Rattle.tpm_pcap.specs.Entries.{Entry, Untold, entries_as, entry_as}
-use Rattle.tpm_pcap.specs.Files.{block_told, ended, next_in}
+use Rattle.tpm_pcap.specs.Files.{after_block, ended, next_in}
 use Rattle.tpm_pcap.proofs.Pieces.{goes_more, stop_told}
 use Rattle.tpm_pcap.proofs.file.take_blocks.Goals as goal
 
@@ -15,15 +15,15 @@ loop-used-preserved c =
     let bytes = c.args.bytes.now in
     let reader = reader_as c.loop-used.reader in
     let block = framed_as c.in-Ok.next in
-    let told = block_told reader block.block in
+    let told = (after_block reader block.block).1 in
     let is : next_in c.args.format reader.section.order (drop used bytes) ≡ Ok block = sym (rw c.behind.ensures at c.in-Ok.ensures.value) in
     let come : Come = record { format = c.args.format; old = reader_as c.args.reader.now; bytes = bytes; last = c.args.last; new = reader; told = f.told } in
     record {
       told = f.told ++ told;
-      added = c.in_ok-take-in-Ok.ensures.1 ∙ ap (λ (l : List Entry). l ++ told) f.added
+      added = c.in_ok-take-in-Ok.ensures.told.1 ∙ ap (λ (l : List Entry). l ++ told) f.added
           ∙ append_assoc (entries_as c.args.entries.now.items) f.told told;
-      goes = rw c.in_ok-take-in-Ok.ensures.0 (goes_more come used block f.goes is c.in-Ok.ensures.size.0
-          (rw c.behind.ensures at c.in-Ok.ensures.size.1) c.in_ok-take-in-Ok.ensures.2);
+      goes = rw c.in_ok-take-in-Ok.ensures.told.0 (goes_more come used block f.goes is c.in-Ok.ensures.size.0
+          (rw c.behind.ensures at c.in-Ok.ensures.size.1) c.in_ok-take-in-Ok.ensures.few);
     }
 
 pub returns-in-Err : goal.returns-in-Err
