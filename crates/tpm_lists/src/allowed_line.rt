@@ -42,7 +42,7 @@ fn digits_bucket(digits: &[u8]) -> usize
 
 // Whether all are hexadecimal digits, and whether some are capitals.
 #[inline(always)]
-fn kinds_in(text: &[u8]) -> (bool, bool)
+fn digits_and_capitals_in(text: &[u8]) -> (bool, bool)
     ensures { result ≡ (list_all is_hex_digit text.now, list_any is_ascii_uppercase text.now) }
 {
     let mut are_digits = true;
@@ -72,13 +72,13 @@ const SHA256_BYTES: usize = 32;
 
 const SHA256_DIGITS: usize = 2 * SHA256_BYTES;
 
-// The same.
-fn kinds_of(text: &[u8]) -> (bool, bool)
+// The same. The digits of SHA-256, whose number is known here, are read without a loop.
+fn digits_and_capitals(text: &[u8]) -> (bool, bool)
     ensures { result ≡ (list_all is_hex_digit text.now, list_any is_ascii_uppercase text.now) }
 {
     match text.as_array::<SHA256_DIGITS>() {
-        Some(digits) => kinds_in(digits),
-        None => kinds_in(text),
+        Some(digits) => digits_and_capitals_in(digits),
+        None => digits_and_capitals_in(text),
     }
 }
 
@@ -202,7 +202,7 @@ impl<'a> AllowedLine<'a> {
         ensures { MatchOption result (allowing bank register (bytes_in digits.now) ≡ Wrong)
             (λ line. allowing bank register (bytes_in digits.now) ≡ Allows line) }
     {
-        let (are_digits, has_capitals) = kinds_of(digits);
+        let (are_digits, has_capitals) = digits_and_capitals(digits);
         if digits.len() != 2 * bank.digest_len() || !are_digits {
             return None;
         }

@@ -18,7 +18,7 @@ use tpm_check::explain_kind;
 use tpm_names::codes::code_of_name;
 use tpm_output::fault::ToolFault;
 use tpm_output::status::Status;
-use tpm_show::{Built, build, explain, show, show_fields};
+use tpm_show::{build, explain, show, show_fields};
 
 /// How a task ended that has an answer.
 #[derive(Drop)]
@@ -27,17 +27,6 @@ pub struct Answered {
     pub status: Status,
     /// What is told beside the answer: of parts that `build` refuses a line, and else nothing.
     pub remark: String,
-}
-
-// A task that has nothing told beside its answer.
-fn silent(alloc: Global, status: Status) -> Answered
-    ensures status { result.status ≡ status }
-    ensures remark { string_bytes result.remark ≡ [] }
-{
-    Answered {
-        status,
-        remark: String::new(alloc),
-    }
 }
 
 // Prints what a response code of this name says, or the kind of a log's fault.
@@ -49,6 +38,55 @@ fn explain_name<W: Write>(alloc: Global, out: &mut W, name: &str) -> Result<Stat
     match code_of_name(name) {
         Some(code) => explain(alloc, out, code),
         None => explain_kind(alloc, out, name),
+    }
+}
+
+// Prints what a task asks for, and answers whether all was done. The remark becomes what is told beside it.
+fn print_task<'a, I: Inputs, W: Write>(
+    alloc: Global,
+    inputs: &I,
+    out: &mut W,
+    task: Task<'a>,
+    remark: &mut String,
+) -> Result<Status, Fault<'a>>
+    requires { string_bytes remark.old ≡ [] }
+    ensures ok { IfOk result (λ status. (text : List ℕ)
+        × Performs (I.offers inputs.now) task.entry status text
+        × Remarks task.entry (string_bytes remark.new)
+        × Appends (W.contents out.old) (W.contents out.new) text) }
+    ensures err { IfErr result (λ fault. Fails (I.offers inputs.now) task.entry fault) }
+{
+    match task {
+        Task::Show {
+            reply,
+            fields: true,
+            hex,
+        } => Ok(show_fields(alloc, out, reply, hex)?),
+        Task::Show {
+            reply,
+            fields: false,
+            hex,
+        } => Ok(show(alloc, out, reply, hex)?),
+        Task::ShowCapture(task) => show_capture(alloc, inputs, out, &task),
+        Task::ShowPackets(task) => show_traffic(alloc, inputs, out, &task),
+        Task::ShowNv { file } => show_memory(alloc, inputs, out, file),
+        Task::Build {
+            name,
+            handles,
+            sessions,
+            parameters,
+        } => {
+            let built = build(alloc, out, name, handles, sessions, parameters)?;
+            *remark = built.remark;
+            Ok(built.status)
+        }
+        Task::Run { owner, greatest } => run_input(alloc, inputs, out, &owner, greatest),
+        Task::Explain { code } => Ok(explain(alloc, out, code)?),
+        Task::ExplainName { name } => Ok(explain_name(alloc, out, name)?),
+        Task::Check(task) => check(alloc, inputs, out, &task),
+        Task::CheckListed(task) => check_banks(alloc, inputs, out, &task),
+        Task::EventsHeader(task) => events_header(alloc, inputs, out, &task),
+        Task::Events(task) => events(alloc, inputs, out, &task),
     }
 }
 
@@ -75,37 +113,7 @@ pub fn perform<'a, I: Inputs, W: Write>(
         × Appends (W.contents out.old) (W.contents out.new) text) }
     ensures err { IfErr result (λ fault. Fails (I.offers inputs.now) task.entry fault) }
 {
-    match task {
-        Task::Show {
-            reply,
-            fields: true,
-            hex,
-        } => Ok(silent(alloc, show_fields(alloc, out, reply, hex)?)),
-        Task::Show {
-            reply,
-            fields: false,
-            hex,
-        } => Ok(silent(alloc, show(alloc, out, reply, hex)?)),
-        Task::ShowCapture(task) => Ok(silent(alloc, show_capture(alloc, inputs, out, &task)?)),
-        Task::ShowPackets(task) => Ok(silent(alloc, show_traffic(alloc, inputs, out, &task)?)),
-        Task::ShowNv { file } => Ok(silent(alloc, show_memory(alloc, inputs, out, file)?)),
-        Task::Build {
-            name,
-            handles,
-            sessions,
-            parameters,
-        } => {
-            let Built { status, remark } = build(alloc, out, name, handles, sessions, parameters)?;
-            Ok(Answered { status, remark })
-        }
-        Task::Run { owner, greatest } => {
-            Ok(silent(alloc, run_input(alloc, inputs, out, &owner, greatest)?))
-        }
-        Task::Explain { code } => Ok(silent(alloc, explain(alloc, out, code)?)),
-        Task::ExplainName { name } => Ok(silent(alloc, explain_name(alloc, out, name)?)),
-        Task::Check(task) => Ok(silent(alloc, check(alloc, inputs, out, &task)?)),
-        Task::CheckListed(task) => Ok(silent(alloc, check_banks(alloc, inputs, out, &task)?)),
-        Task::EventsHeader(task) => Ok(silent(alloc, events_header(alloc, inputs, out, &task)?)),
-        Task::Events(task) => Ok(silent(alloc, events(alloc, inputs, out, &task)?)),
-    }
+    let mut remark = String::new(alloc);
+    let status = print_task(alloc, inputs, out, task, &mut remark)?;
+    Ok(Answered { status, remark })
 }

@@ -17,12 +17,11 @@ returns-in-Ok-clause-ok g c =
     let list = option_map coming c.in_ok-list.list in
     let attest = option_map (λ v. v.items) c.in_ok-attest.attest in
     let allow = option_map (λ v. v.items) c.in_ok-allow.allow in
+    let asked : Option (List ℕ) → Option (List ℕ) → Asked = λ attest allow.
+    record { options = task.options; attest = attest; allow = allow } in
     let prints : Option (Option (List ℕ)) → Option (List ℕ) → Option (List ℕ) → Type 0 = λ list attest allow.
-    PrintsAsked (record {
-      log = log;
-      list = list;
-      asked = record { options = task.options; attest = attest; allow = allow };
-    }) status said.0 in
+    PrintsAsked (record { log = log; list = list; asked = asked attest allow }) status said.0 in
+    let says : Asked → Type 0 = λ a. PrintsAsked (record { log = log; list = list; asked = a }) status said.0 in
     let quoted : Option (Option (List ℕ)) → Option (List ℕ) → Type 0 = λ list attest. OfFirstIf offered most_read files.allow (prints list attest) in (
       said.0,
       (
@@ -32,7 +31,7 @@ returns-in-Ok-clause-ok g c =
             c.in_ok-list.ensures.opened
             (of_first_if offered most_attest files.attest attest (quoted list) c.in_ok-attest.ensures.ok
             (of_first_if offered most_read files.allow allow (prints list attest) c.in_ok-allow.ensures.ok
-            (subst (λ (a : Asked). PrintsAsked (record { log = log; list = list; asked = a }) status said.0) c.asked_with-asked.ensures said.1))),
+            (subst says {y = asked attest allow} c.asked_with-asked.ensures said.1))),
       ),
       said.2,
     )

@@ -2,7 +2,7 @@ use Rattle.std.proofs.Common.{◌≡◌, take}
 use Rattle.std.specs.Char.{is_ascii_uppercase}
 use Rattle.std.specs.List.{list_all, list_any}
 use Rattle.hex.specs.Hex.{is_hex_digit}
-use Rattle.tpm_lists.proofs.allowed_line.kinds_in.Given as goal
+use Rattle.tpm_lists.proofs.allowed_line.digits_and_capitals_in.Given as goal
 
 -- the digits and capitals so far
 abbrev pub invariant-loop-byte : goal.invariant-loop-byte
