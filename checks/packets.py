@@ -138,8 +138,11 @@ FILES = {
         *[section(), interface(101), interface(101, options=option(2, b"lo") + option(9, b"\x09") + option(0, b""))],
         *[interface(101, options=option(9, b"\x8a")), interface(101, options=option(9, b"\x14"))],
         interface(101, options=option(14, struct.pack("<q", 1)) + option(9, b"\x09")),
+        interface(101, options=option(9, b"\x09") + option(14, struct.pack("<q", 1))),
+        interface(101, options=option(9, b"") + option(2, b"lo")),
         *[enhanced(packet, number, units=5 * 10**12 + 1) for number, packet in enumerate(
-            [to(1, STARTUP), back(1, DONE), to(13, STARTUP), back(11, DONE), to(25, STARTUP)])],
+            [to(1, STARTUP), back(1, DONE), to(13, STARTUP), back(11, DONE), to(25, STARTUP), back(21, DONE),
+             to(37, STARTUP)])],
     ],
     "short": [next(savefile(101, []))[:23]],
     "no_capture": [bytes.fromhex("0a0d0d0a"), bytes(60)],

@@ -1,7 +1,7 @@
 -- The options of an interface in a pcapng file (IETF draft-ietf-opsawg-pcapng, "Options" and "Interface Description
 -- Block Options").
-use Rattle.std.specs.Prelude.{ℕ, zero, suc, ◌+◌, ◌*◌, ◌/◌, ◌^◌, ◌-◌, ◌==◌, nat_lt, List, length, drop, slice_index}
-use Rattle.std.specs.Prelude.{Ok, Err, if◌then◌else◌}
+use Rattle.std.specs.Prelude.{ℕ, zero, suc, ◌+◌, ◌*◌, ◌/◌, ◌^◌, ◌-◌, ◌==◌, nat_lt, List, [], ◌∷◌, length, take, drop}
+use Rattle.std.specs.Prelude.{Option, Some, None, is_some, Ok, Err, if◌then◌else◌}
 use Rattle.std.specs.Int.{w16}
 use Rattle.tpm_pcap.specs.declared.numbers.Order.{Order}
 use Rattle.tpm_pcap.specs.Numbers.{Fields, ◌>>=◌, field}
@@ -21,21 +21,30 @@ option_in order options = do
   size ← field order w16 code.1
   Ok ((code.0, size.0), size.1)
 
--- How many units of its times a second has, by the first if_tsresol (9); a million where none says, as behind
--- opt_endofopt (0). With an if_tsoffset (14) before it nothing is known. An if_tsresol without a byte says 0.
-abbrev pub per_second_by : Fields (ℕ × ℕ) → (behind : List ℕ → ℕ) → ℕ
-per_second_by (Err reason) behind = 1000000
-per_second_by (Ok option) behind =
-    if option.0.0 == 0 then 1000000
-    else if option.0.0 == 9 then per_second_of (slice_index option.1 0)
-    else if option.0.0 == 14 then 0
+-- the value of the first option with this code, of those before opt_endofopt (0)
+abbrev pub value_by : (sought : ℕ) → Fields (ℕ × ℕ) → (behind : List ℕ → Option (List ℕ)) → Option (List ℕ)
+value_by sought (Err reason) behind = None
+value_by sought (Ok option) behind =
+    if option.0.0 == 0 then None
+    else if option.0.0 == sought then Some (take option.0.1 option.1)
     else behind (drop ((option.0.1 + 3) / 4 * 4) option.1)
 
 -- There are no more options than bytes.
-abbrev pub per_second_from : (most : ℕ) → Order → List ℕ → ℕ
-per_second_from zero order options = 1000000
-per_second_from (suc most) order options =
-    per_second_by (option_in order options) (λ behind. per_second_from most order behind)
+abbrev pub value_from : (most : ℕ) → Order → (sought : ℕ) → List ℕ → Option (List ℕ)
+value_from zero order sought options = None
+value_from (suc most) order sought options =
+    value_by sought (option_in order options) (λ behind. value_from most order sought behind)
 
+abbrev pub value_in : Order → (sought : ℕ) → List ℕ → Option (List ℕ)
+value_in order sought options = value_from (length options) order sought options
+
+-- by if_tsresol, a million where there is none
+abbrev pub resolution : Option (List ℕ) → ℕ
+resolution None = 1000000
+resolution (Some []) = 0
+resolution (Some (byte ∷ bytes)) = per_second_of byte
+
+-- How many units of its times a second has, by if_tsresol (9). With an if_tsoffset (14) nothing is known.
 abbrev pub per_second_in : Order → List ℕ → ℕ
-per_second_in order options = per_second_from (length options) order options
+per_second_in order options =
+    if is_some (value_in order 14 options) then 0 else resolution (value_in order 9 options)

@@ -31,7 +31,7 @@ pub data Carried : Type 0 where
 -- ---- TCP
 
 -- in so many bytes between these addresses, of which these were captured: Source Port, Destination Port, Sequence
--- Number, Acknowledgment Number, Data Offset, the control bits, of which the second is SYN, and six bytes more
+-- Number, Acknowledgment Number, Data Offset, the control bits, of which the last but one is SYN, and six bytes more
 unfoldable pub in_tcp : (port : ℕ) → (source target : List ℕ) → (size : ℕ) → (tcp : List ℕ) → Result Carried Reason
 in_tcp port source target size tcp = do
   fields ← cut 20 tcp
@@ -73,7 +73,9 @@ in_version6 port bytes = do
   source ← cut 16 fields.1
   target ← cut 16 source.1
   if slice_index fields.0 6 == 6 then in_tcp port source.0 target.0 (number2 fields.0 4) target.1
-      else if slice_index fields.0 6 == 44 && slice_index target.1 0 == 6 then Ok Fragment
+      else if not (slice_index fields.0 6 == 44) then Ok Other
+      else if length target.1 == 0 then Err CutShort
+      else if slice_index target.1 0 == 6 then Ok Fragment
       else Ok Other
 
 -- by its Version

@@ -1,4 +1,4 @@
-//! The fields of a file, one behind the other.
+//! The fields of a file or a packet, one behind the other.
 
 ghost use Rattle.std.specs.Prelude.{◌≡◌, ◌+◌, length, IfOk};
 ghost use Rattle.std.specs.Int.{w16, w32};

@@ -1,12 +1,18 @@
 //! The options of an interface in a pcapng file (IETF draft-ietf-opsawg-pcapng, "Options").
 
-ghost use Rattle.std.specs.Prelude.{◌≡◌, ◌<◌, length, IfOk};
+ghost use Rattle.std.specs.Prelude.{◌≡◌, ◌<◌, length, option_map, IfOk};
 ghost use Rattle.tpm_pcap.specs.inner.Numbers.{field_by};
-ghost use Rattle.tpm_pcap.specs.Options.{option_in, per_second_in, per_second_of};
+ghost use Rattle.tpm_pcap.specs.Options.{option_in, per_second_in, per_second_of, value_in};
 
 use crate::entry::Reason;
 use crate::numbers::Order;
-use crate::segment::behind;
+use crate::segment::{behind, front};
+
+/// The code of if_tsresol.
+const RESOLUTION: u16 = 9;
+
+/// The code of if_tsoffset.
+const OFFSET: u16 = 14;
 
 /// How many units of its times a second has where none is told.
 const MICROSECONDS: u64 = 1_000_000;
@@ -34,23 +40,33 @@ fn option_in(order: Order, options: &[u8]) -> Result<((u16, u16), &[u8]), Reason
     Ok(((code, size), value))
 }
 
+// The value of the first option with this code, of those before opt_endofopt.
+fn value_in(order: Order, options: &[u8], sought: u16) -> Option<&[u8]>
+    ensures { option_map (λ v. v.now) result ≡ value_in order sought options.now }
+{
+    let mut rest = options;
+    while let Ok(((code, size), value)) = option_in(order, rest) {
+        if code == 0 {
+            return None;
+        }
+        if code == sought {
+            return Some(front(value, size as usize));
+        }
+        rest = behind(value, (size as usize + 3) / 4 * 4);
+    }
+    None
+}
+
 /// How many units of its times a second has, by the options of an interface; 0 where that is not known.
 pub(crate) fn per_second_in(order: Order, options: &[u8]) -> u64
     ensures { result ≡ per_second_in order options.now }
 {
-    let mut rest = options;
-    while let Ok(((code, size), value)) = option_in(order, rest) {
-        match code {
-            0 => return MICROSECONDS,
-            9 => {
-                return match value {
-                    [resolution, ..] => per_second_of(*resolution),
-                    [] => per_second_of(0),
-                };
-            }
-            14 => return 0,
-            _ => rest = behind(value, (size as usize + 3) / 4 * 4),
-        }
+    if value_in(order, options, OFFSET).is_some() {
+        return 0;
     }
-    MICROSECONDS
+    match value_in(order, options, RESOLUTION) {
+        Some([resolution, ..]) => per_second_of(*resolution),
+        Some([]) => 0,
+        None => MICROSECONDS,
+    }
 }

@@ -174,6 +174,7 @@ fn in_version6<'a>(port: u16, bytes: &'a [u8]) -> Result<Carried<'a>, Reason>
     match (*next, packet) {
         (6, _) => in_tcp(port, source, target, size, packet),
         (44, [6, ..]) => Ok(Carried::Fragment),
+        (44, []) => Err(Reason::CutShort),
         _ => Ok(Carried::Other),
     }
 }
