@@ -21,7 +21,7 @@ func (f *BootFault) Error() string { return fmt.Sprintf("secure boot unknown %s 
 type BootState uint32
 
 const (
-	On    BootState = C.TPM_SECURE_BOOT_ON    // SecureBoot was 1, and PK, KEK, db and an authority are there
+	On    BootState = C.TPM_SECURE_BOOT_ON    // SecureBoot was 1, PK, KEK and db held something, and an authority is there
 	Off   BootState = C.TPM_SECURE_BOOT_OFF   // SecureBoot was 0
 	Unset BootState = C.TPM_SECURE_BOOT_UNSET // SecureBoot had no byte
 )

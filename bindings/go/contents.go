@@ -32,8 +32,8 @@ type VariableContent struct {
 	Holds Held
 }
 
-// TextContent is text of EV_POST_CODE, EV_ACTION, EV_IPL and EV_EFI_ACTION, without zeros that end it. A unit that is
-// no UTF-16 is U+FFFD.
+// TextContent is text of EV_POST_CODE, EV_ACTION, EV_IPL and EV_EFI_ACTION, without a zero that ends it, in UTF-16
+// without all of them. A unit that is no UTF-16 is U+FFFD.
 type TextContent string
 
 // VersionContent is the version of the root of trust, of EV_S_CRTM_VERSION, as text.

@@ -155,9 +155,9 @@ func EventTypeName(kind uint32) string {
 // TypeName is the name of the record's type, as "EV_SEPARATOR", or "" where the profile names none.
 func (e Event) TypeName() string { return EventTypeName(e.Type) }
 
-// Text is the one that the event's data are, without zeros that end it: UTF-8 of EV_POST_CODE, EV_ACTION, EV_IPL and
-// EV_EFI_ACTION, or UTF-16 of EV_IPL and EV_S_CRTM_VERSION, in which a unit that is none is U+FFFD. It is false where
-// they are no text, or the type is another.
+// Text is the one that the event's data are, without a zero that ends it (in UTF-16 of EV_IPL all of them): UTF-8 of
+// EV_POST_CODE, EV_ACTION, EV_IPL and EV_EFI_ACTION, or UTF-16 of EV_IPL and EV_S_CRTM_VERSION, in which a unit that is
+// none is U+FFFD. It is false where they are no text, or the type is another.
 func (e Event) Text() (text string, is bool) {
 	var it C.struct_tpm_part
 	switch C.tpm_log_text(C.uint32_t(e.Type), place(e.Data), size(e.Data), &it) {

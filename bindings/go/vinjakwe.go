@@ -37,10 +37,14 @@ func init() {
 	}
 }
 
-// Refusal says that bytes are refused: the TPM's response code, and how many bytes are before the first fault.
+// Refusal says that bytes are refused: the TPM's response code, or 0 where it isn't told, and how many bytes are before
+// the first fault.
 type Refusal struct{ Code, At uint32 }
 
 func (r *Refusal) Error() string {
+	if r.Code == 0 {
+		return fmt.Sprintf("refused at %d", r.At)
+	}
 	return fmt.Sprintf("refused %03x at %d: %s", r.Code, r.At, CodeName(r.Code))
 }
 

@@ -613,6 +613,9 @@ func TestSignaturesByTheirParts(t *testing.T) {
 	if _, err := DecodeSignature(ecdsa[:10]); !errors.As(err, &refusal) || *refusal != (Refusal{0x9a, 10}) {
 		t.Error(err)
 	}
+	if said := (&Refusal{0, 3}).Error(); said != "refused at 3" {
+		t.Error(said)
+	}
 }
 
 func TestNamesOfCodes(t *testing.T) {

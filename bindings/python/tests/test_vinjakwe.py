@@ -534,6 +534,10 @@ class Faults(unittest.TestCase):
         self.assertEqual((caught.exception.code, caught.exception.at), (0x1C4, 10))
         self.assertEqual(caught.exception.name, "TPM_RC_VALUE for parameter 1")
 
+    def test_a_refusal_whose_code_is_not_told(self):
+        refusal = v.Refusal(0, 3)
+        self.assertEqual((str(refusal), refusal.name), ("refused at 3", ""))
+
     def test_names_of_codes(self):
         for code, name in ((0, "TPM_RC_SUCCESS"), (0x921, "TPM_RC_LOCKOUT"), (0x9A2, "TPM_RC_BAD_AUTH for session 1"),
                            (0xFE1, "TPM_RC_RESERVED_BITS for parameter 15"), (0x184, "TPM_RC_VALUE for handle 1"),

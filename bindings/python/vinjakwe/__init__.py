@@ -104,11 +104,12 @@ def _answer_name(answer: int) -> str:
 
 
 class Refusal(ValueError):
-    """The bytes are refused: the TPM's response code, and how many bytes are before the first fault."""
+    """The bytes are refused: the TPM's response code and its name, 0 and none where it isn't told, and how many bytes
+    are before the first fault."""
 
     def __init__(self, code: int, at: int) -> None:
-        super().__init__(f"refused {code:03x} at {at}: {code_name(code)}")
-        self.code, self.at, self.name = code, at, code_name(code)
+        self.code, self.at, self.name = code, at, code_name(code) if code else ""
+        super().__init__(f"refused {code:03x} at {at}: {self.name}" if code else f"refused at {at}")
 
     def __reduce__(self) -> tuple[type[Refusal], tuple[int, int]]:
         return Refusal, (self.code, self.at)
@@ -655,9 +656,9 @@ def event_type_name(type: int) -> str | None:
 
 
 def text(event: Event) -> str | None:
-    """The text that the data of a record are, without zeros that end it: UTF-8 of EV_POST_CODE, EV_ACTION, EV_IPL and
-    EV_EFI_ACTION, or UTF-16 of EV_IPL and EV_S_CRTM_VERSION, of which units that are no UTF-16 stay as they are. None
-    where they are no text, or the type is another."""
+    """The text that the data of a record are, without a zero that ends it (in UTF-16 of EV_IPL all of them): UTF-8 of
+    EV_POST_CODE, EV_ACTION, EV_IPL and EV_EFI_ACTION, or UTF-16 of EV_IPL and EV_S_CRTM_VERSION, of which units that
+    are no UTF-16 stay as they are. None where they are no text, or the type is another."""
     view = _Part()
     said = _lend(_library.tpm_log_text, event.type, (event.data,), byref(view))
     if said not in (_TEXT, _TEXT_UTF16):
@@ -774,7 +775,8 @@ def _guid(data: bytes, it: _Part) -> uuid.UUID:
 
 @dataclass(frozen=True)
 class Text:
-    """Text of EV_POST_CODE, EV_ACTION, EV_IPL and EV_EFI_ACTION, without zeros that end it."""
+    """Text of EV_POST_CODE, EV_ACTION, EV_IPL and EV_EFI_ACTION, without a zero that ends it, in UTF-16 without all of
+    them."""
 
     text: str
 

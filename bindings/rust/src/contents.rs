@@ -9,7 +9,8 @@ use crate::{c, part, Event, Image, PathNode, Text, Variable};
 pub enum Content<'a> {
     /// A variable, and what it holds.
     Variable(Variable<'a>, Held<'a>),
-    /// Text of EV_POST_CODE, EV_ACTION, EV_IPL and EV_EFI_ACTION, without zeros that end it.
+    /// Text of EV_POST_CODE, EV_ACTION, EV_IPL and EV_EFI_ACTION, without a zero that ends it, in UTF-16 without all of
+    /// them.
     Text(Text<'a>),
     /// The version of the root of trust, of EV_S_CRTM_VERSION, in UTF-16 with the less significant byte of each unit
     /// first.

@@ -25,7 +25,7 @@ impl Selection {
 /// A quote as it was signed, a TPMS_ATTEST, whose parts borrow from the bytes that were decoded.
 #[derive(Clone, Copy, Debug)]
 pub struct Attest<'a> {
-    /// The name of the key that signed.
+    /// The qualified Name of the key that signed.
     pub signer: &'a [u8],
     /// What the verifier sent.
     pub nonce: &'a [u8],
