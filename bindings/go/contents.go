@@ -124,7 +124,7 @@ func (Evidence) isContent()        {}
 // Held is what a variable holds: a LoadOption, BootOrder, SignatureLists, Owned, HeldByte, or HeldBytes.
 type Held interface{ isHeld() }
 
-// LoadOption is what the firmware may start, of Boot####: its attributes' bits, of which 1 is that it is tried; its
+// LoadOption is what the firmware may start, of Boot####: its attributes, of which bit 0 says that it is tried; its
 // description; its device paths, each by its nodes up to the first fault; and what is handed to the program.
 type LoadOption struct {
 	Attributes  uint32

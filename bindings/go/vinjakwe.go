@@ -20,7 +20,7 @@ import (
 // The version of the header that this package was built with.
 const Version = "0.1.0"
 
-// Many bytes of these at most, or of a nonce exactly.
+// How many bytes these have at most, and a nonce exactly.
 const (
 	BufferBytes = C.TPM_BUFFER_BYTES
 	// DeviceKeptBytes is how many bytes a device keeps at most.

@@ -479,6 +479,8 @@ def _sessions(view: memoryview, areas: _CommandAreas | _ResponseAreas) -> tuple[
 
 
 class Command(NamedTuple):
+    """A command by its parts: its parameters are bytes, as they stand in it."""
+
     code: int
     name: str
     size: int
@@ -889,7 +891,7 @@ class Evidence:
 
 @dataclass(frozen=True)
 class LoadOption:
-    """What the firmware may start, of Boot####: its attributes' bits, of which 1 is that it is tried; its description;
+    """What the firmware may start, of Boot####: its attributes, of which bit 0 says that it is tried; its description;
     its device paths, each by its nodes up to the first fault; and what is handed to the program."""
 
     attributes: int
@@ -1246,6 +1248,8 @@ def decode_signature(data: Buffer) -> Signature:
 
 
 class Kind(enum.Enum):
+    """What is said of a quote, as `Verdict` has it."""
+
     MATCHES, DIFFERS, NONCE, LACKS, EMPTY = 0, 16, 19, 20, 21
     SIGNER, UNKNOWN, UNSIGNED = -1, -2, -3
 
@@ -1310,8 +1314,8 @@ def check(log: Log, attest: Buffer, nonce: Buffer | Literal[_Unasked.NONCE],
     Name of the key, where it is to be compared; `allow` is a list of digests, as the lines of `tpmtool check LOG
     --extends`: the quote has to select each register that it names, and each digest of the log there has to be on it.
     Read the file of a list as bytes: as text `open` ends lines elsewhere, too. Raises LogFault, and Refusal for bytes
-    that spell no quote; ValueError where `require` is no selection or has no register, the nonce has no byte, or
-    `allow` is no list or has no digest."""
+    that spell no quote; ValueError where `require` is no selection or has no register, the nonce has no byte, `hash` is
+    no bank's, or `allow` is no list or has no digest."""
     fault, whole = _AttestFault(), _whole(log)
     allowed = None if allow is None else _allowed(allow)
     listed = b"" if require is ANY_SELECTION else _selected(require)

@@ -189,7 +189,7 @@ impl<'a> Evidence<'a> {
 /// What the firmware may start.
 #[derive(Clone, Copy, Debug, PartialEq, Eq)]
 pub struct LoadOption<'a> {
-    /// Its attributes' bits, of which 1 is that it is tried.
+    /// Its attributes, of which bit 0 says that it is tried.
     pub attributes: u32,
     /// Its description in UTF-16, with the less significant byte of each unit first.
     pub description: &'a [u8],

@@ -67,7 +67,7 @@ fn number(text: &str) -> Option<u32>
     hexadecimal(digits(text))
 }
 
-// The same, or in decimal.
+// The number of a text in hexadecimal or in decimal, or none where it spells none below 2^32.
 fn number_in(decimal: bool, text: &str) -> Option<u32>
     ensures { MatchOption result ((code : ℕ) → IsCode decimal (Some text.now) code → ⊥)
         (λ code. IsCode decimal (Some text.now) code) }

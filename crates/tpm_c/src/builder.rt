@@ -16,7 +16,7 @@ use tpm_types::CommandCode;
 use tpm_wire::response_code::COMMAND_SIZE;
 use tpm_wire::{Buffer, Refusal};
 
-// So many bytes of parameters are judged: one more than any command's have, so that the fault of more is among them.
+// So many bytes of parameters are judged: more than any command's have, so that the fault of more is among them.
 const JUDGED_BYTES: usize = 1101;
 
 // What is answered where the front of the joined parts is not asked for.

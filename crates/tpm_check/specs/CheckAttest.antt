@@ -117,7 +117,7 @@ ended form v = printed v.status (v.text ++ ok_text form v.status)
 abbrev pub Says : Verdict → Status → List ℕ → Type 0
 Says v status text = (status ≡ v.status) × (text ≡ v.text)
 
--- A size stands before TPM_GENERATED_VALUE, with which a quote begins (TPM2B_ATTEST; Part 2, 6.2 and 10.12.9).
+-- A size stands before TPM_GENERATED_VALUE, with which a quote begins (TPM2B_ATTEST; Part 2, 6.2 and 10.12.13).
 abbrev pub is_sized : List ℕ → Bool
 is_sized bytes = bytes_eq (take 4 (drop 2 bytes)) (0xFF ∷ 0x54 ∷ 0x43 ∷ 0x47 ∷ [])
 

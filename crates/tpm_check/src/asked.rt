@@ -7,7 +7,7 @@ use tpm_options::CheckOptions;
 pub struct Asked<'a, 'o> {
     /// What is asked, and what is expected of the quotes.
     pub options: &'a CheckOptions<'o>,
-    /// A quote as it was signed: a TPMS_ATTEST (Part 2, 10.12.8).
+    /// A quote as it was signed: a TPMS_ATTEST (Part 2, 10.12.12).
     pub attest: Option<&'a [u8]>,
     /// A list of allowed digests. It says nothing without that quote.
     pub allow: Option<&'a [u8]>,

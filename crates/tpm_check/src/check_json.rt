@@ -103,7 +103,7 @@ pub(crate) fn push_fault(text: &mut String, form: Form, fault: &str) -> Pushed
     )
 }
 
-/// The same, with the status `Refused`. AllocError where a request for memory is refused.
+/// The answer that tells this fault, with the status `Refused`. AllocError where a request for memory is refused.
 pub(crate) fn fault_answer(alloc: Global, form: Form, fault: &str) -> Result<Answer, AllocError>
     ensures { IfOk result (λ a. (a.status ≡ Refused)
         × (string_bytes a.text ≡ fault_told form fault.now)) }

@@ -198,7 +198,7 @@ impl<'a, 'b> Tell for ToldJudged<'a, 'b> {
 // TPM_GENERATED_VALUE (Part 2, 6.2), with which a quote begins.
 const GENERATED: [u8; 4] = [0xFF, 0x54, 0x43, 0x47];
 
-// Whether a size stands before a quote, as in a TPM2B_ATTEST (Part 2, 10.12.9).
+// Whether a size stands before a quote, as in a TPM2B_ATTEST (Part 2, 10.12.13).
 fn is_sized(bytes: &[u8]) -> bool
     ensures { result ≡ is_sized bytes.now }
 {

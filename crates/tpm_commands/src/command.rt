@@ -275,7 +275,7 @@ impl CommandBody<'_> {
         }
     }
 
-    /// How many bytes its parameters have, 0 to 3,500.
+    /// How many bytes its parameters have, 0 to 1,026; what is proved is 3,500 at most.
     #[tactic(auto, unfolding(crate::specs::Commands::Pcr::pcr_event, crate::specs::Commands::Startup::startup, crate::specs::Commands::Context::flush_context, crate::specs::Commands::Policy::policy_command_code, crate::specs::Commands::Policy::policy_or, crate::specs::Commands::Pcr::pcr_read, crate::specs::Commands::Pcr::pcr_extend,))]
     pub fn params_len(&self) -> usize
         ensures value { result

@@ -267,8 +267,8 @@ impl Device {
     /// (tpm_buffer's codes), then REFERENCE_H0 for a policy session that is not loaded and HANDLE
     /// for an index that is not defined; AUTH_CONTEXT and AUTH_MISSING; the authorization area; the
     /// sessions (tpm_session's codes, in the order of `authorize`); the parameters; and the
-    /// refusals of the command's action, those of tpm_nv and tpm_session, and VALUE for a start
-    /// from a saved state (Part 1, "Command Processing"; the order is this profile's).
+    /// refusals of the command's action, those of tpm_pcr, tpm_nv and tpm_session, and VALUE for a
+    /// start from a saved state (Part 1, "Command Processing"; the order is this profile's).
     pub fn execute(&mut self, bytes: &[u8], nonce: &[u8; 64]) -> ResponseBuffer
         ensures answer { (o : Origin) (h : History) →
             Stands o h self.old →

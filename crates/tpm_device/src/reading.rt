@@ -1,5 +1,5 @@
-//! The parameters of a command: by value where there are none, a number or two, or a selection; any other in the room
-//! of the longest.
+//! The parameters of a command: by value where there are none, a start-up type, the two numbers of NV_Read or the
+//! selections of PCR_Read; any other in the room of the longest.
 //!
 //! `decode_params_into` fills that room. What is read by value is made in line, and so the compiler keeps it out of
 //! memory: a TPM2_NV_Read takes 166 ns so, and 195 by that room; a TPM2_PCR_Read 142 and 198.
@@ -59,7 +59,7 @@ pub(crate) fn selections(bytes: &[u8]) -> Option<Selections>
     Some(selections)
 }
 
-/// The parameters of a command with this code that has none, or a number or two, where the bytes spell them.
+/// The parameters of a command with this code that has none, of a start, or of NV_Read, where the bytes spell them.
 #[inline]
 pub(crate) fn bare(code: CommandCode, bytes: &[u8]) -> Option<Params<'static>>
     requires { length bytes.now ≤ 4096 }

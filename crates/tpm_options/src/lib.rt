@@ -84,7 +84,7 @@ pub struct CheckFiles<'a> {
     pub log: &'a str,
     /// A list of registers.
     pub registers: Option<&'a str>,
-    /// A quote as it was signed: a TPMS_ATTEST (Part 2, 10.12.8).
+    /// A quote as it was signed: a TPMS_ATTEST (Part 2, 10.12.12).
     pub attest: Option<&'a str>,
     /// A list of allowed digests.
     pub allow: Option<&'a str>,

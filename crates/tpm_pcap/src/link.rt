@@ -14,7 +14,7 @@ pub(crate) enum Link {
     Ethernet,
     /// What Linux tells of any of its devices.
     Cooked,
-    /// The same, in another order.
+    /// What Linux tells of any of its devices in its second version, the protocol first.
     Cooked2,
 }
 

@@ -47,7 +47,7 @@ ecc_signature =
     field (λ s. s.s) (sized_bytes ecc_bytes) (λ s.
     done (record { hash = alg; r = r; s = s }))))
 
--- TPMI_ALG_SIG_SCHEME (9.34): RSASSA, RSAPSS and ECDSA alone
+-- TPMI_ALG_SIG_SCHEME (9.33): RSASSA, RSAPSS and ECDSA alone
 unfoldable pub scheme : Layout ℕ
 scheme = number_in 2 (λ n. n == alg_rsassa || n == alg_rsapss || n == alg_ecdsa) rc_scheme
 

@@ -263,7 +263,8 @@ impl Sessions {
 
     /// The session of the reply to a command that was authorized so, before it rolls: a password is
     /// answered with continueSession alone, a session with its next nonce, the command's attributes
-    /// and its HMAC over the reply's parameters. The HMAC is empty where the command's could be.
+    /// and its HMAC over the reply's parameters. The HMAC is empty where both the key and
+    /// the command's HMAC are.
     /// The entity is that of the command, or as it is after the command with the same authorization
     /// value (Part 1, "HMAC Computation"). Of a slot without a session it is empty: no nonce, no
     /// attributes and no HMAC.

@@ -157,7 +157,7 @@ impl Signed<'_> {
         same(self.auth.hmac(), mac.as_slice())
     }
 
-    /// The session's part of the reply to the command that it authorized: its HMAC, or none.
+    /// The session's part of the reply to the command that it authorized.
     pub(crate) fn reply(&self, answered: &Answered<'_>) -> AuthReply
         ensures { (p_hash : List ℕ) →
             reply_auths (Evidence.ByMac (signed_in self.now p_hash)) answered.now.command
@@ -208,7 +208,7 @@ pub(crate) fn no_reply() -> AuthReply
     }
 }
 
-// The code of a wrong password or HMAC: AUTH_FAIL where it counts towards a lockout, else BAD_AUTH.
+// The code of a wrong password or HMAC: BAD_AUTH of what has no lockout, else AUTH_FAIL. Nothing is counted here.
 fn failure(entity: &Entity<'_>) -> u32
     ensures { result ≡ failure_of (entity_in entity.now) }
 {

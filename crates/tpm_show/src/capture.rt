@@ -292,9 +292,9 @@ impl LineSink for Capture {
 ///
 /// A line has a frame in hexadecimal digits, two to a byte and in either case, behind `0x` or without it. Spaces, tabs
 /// and carriage returns count for nothing wherever they stand. `>` before it marks a command and `<` a reply. Without a
-/// mark a frame is a command, but where one is before it and the frame is of ten bytes, or has the code 0, it is the
-/// reply. A line that is empty, or begins with `#`, is skipped. A line ends with a line feed, and the last may do
-/// without.
+/// mark a frame is a command, but where a command or a line without a frame is before it and the frame is of ten bytes,
+/// or has the code 0, it is a reply. A line that is empty, or begins with `#`, is skipped. A line ends with a line
+/// feed, and the last may do without.
 ///
 /// The first line of a frame begins with its number, from 1, and its mark, and tells its header, whatever is refused:
 /// `command NAME size N tag XXXX`, or `reply NAME size N tag XXXX code XXX TPM_RC_NAME` (Part 1, "Command/Response
@@ -309,9 +309,9 @@ impl LineSink for Capture {
 ///
 /// A reply is read as one to the command before it, by the code of that, and may be beyond this profile likewise. To a
 /// command that the profile hasn't it is told by the library's table. With no command before it the line `no command is
-/// before it` follows its header, and with a command whose code the library hasn't, or that has no code, `its command
-/// is not known`. A line of other text is `N not hexadecimal`, and one of more than 8,195 bytes beside its blanks `N
-/// too long`; the next is read all the same.
+/// before it` follows its header, and behind a line without a frame, or a command that has no code or one that the
+/// library hasn't, `its command is not known`. A line of other text is `N not hexadecimal`, and one of more than 8,195
+/// bytes beside its blanks `N too long`; the next is read all the same.
 ///
 /// The object has the members `number` and `kind`, which is `command` or `response`. A header has `command`, where a
 /// reply has one before it, `size`, `tag` and `tag_name`; then a command `command_code`, and a response `code` and
@@ -327,10 +327,10 @@ impl LineSink for Capture {
 /// without a frame has `number` and `fault`. Each says what its line says: bytes, handles, attributes and codes are in
 /// hexadecimal, and no bytes are empty.
 ///
-/// The status is `Refused` where a frame or a line was refused, or a reply to another command of the library is not one
-/// by its table, and else `Done`. What a read gave is answered before
-/// the next read: where that fails, what was written is the text of the lines that had ended. No more than one line
-/// and one piece is held.
+/// The status is `Refused` where a frame or a line was refused, where a reply has no command before it or one that is
+/// not known, or where one to another command of the library is not one by its table; and else `Done`. What a read gave
+/// is answered before the next read: where that fails, what was written is the text of the lines that had ended. No
+/// more than one line and one piece is held.
 ///
 /// Where a request for memory is refused the answer is `Memory`, where a read fails `Read`, where the writer fails
 /// `Write`, and where more than 2^62 bytes come `InputTooLong`. What was written before is then left open, and a failed

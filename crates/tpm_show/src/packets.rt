@@ -93,7 +93,7 @@ fn tell_entry(alloc: Global, capture: &mut Capture, entry: &Entry, text: &mut St
     }
 }
 
-// The same, and prints it.
+// Takes one entry, and prints what is told of it.
 fn print_entry<W: Write>(
     alloc: Global,
     capture: &mut Capture,

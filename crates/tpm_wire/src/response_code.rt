@@ -57,13 +57,14 @@ pub const REFERENCE_H0: u32 = 0x910;
 /// TPM_RC_REFERENCE_S0: the first session is no password and is not loaded.
 pub const REFERENCE_S0: u32 = 0x918;
 
-/// TPM_RC_ATTRIBUTES: attributes that are not for this use. The number of what has them is added.
+/// TPM_RC_ATTRIBUTES: attributes that are not for this use. A number is added where they are part of a handle, session
+/// or parameter.
 pub const ATTRIBUTES: u32 = 0x082;
 
-/// TPM_RC_HASH: the hash is none of this profile. A number is added.
+/// TPM_RC_HASH: the hash is none of this profile. A number is added where it is part of a session or parameter.
 pub const HASH: u32 = 0x083;
 
-/// TPM_RC_VALUE: a value outside its set. A number is added.
+/// TPM_RC_VALUE: a value outside its set. A number is added where it is part of a handle, session or parameter.
 pub const VALUE: u32 = 0x084;
 
 /// TPM_RC_MODE: the mode of a symmetric algorithm isn't CFB. A number is added.
@@ -72,14 +73,15 @@ pub const MODE: u32 = 0x089;
 /// TPM_RC_HANDLE: a handle refers to nothing that is there. A number is added.
 pub const HANDLE: u32 = 0x08B;
 
-/// TPM_RC_AUTH_FAIL: a wrong authorization, which counts towards a lockout. The session's number is added.
+/// TPM_RC_AUTH_FAIL: a wrong authorization of what is not without a lockout (NO_DA), which a TPM counts. The session's
+/// number is added.
 pub const AUTH_FAIL: u32 = 0x08E;
 
 /// TPM_RC_NONCE: a password has a nonce. The session's number is added.
 pub const NONCE: u32 = 0x08F;
 
-/// TPM_RC_SIZE: bytes left over in an area, or a size or count outside its bounds. A number is added, but not to
-/// that of bytes behind a command or a response.
+/// TPM_RC_SIZE: bytes left over in an area, or a size or count outside its bounds. A number is added where the token is
+/// part of a handle, session or parameter.
 pub const SIZE: u32 = 0x095;
 
 /// TPM_RC_SYMMETRIC: the symmetric algorithm is none of NULL, AES and XOR. A number is added.
