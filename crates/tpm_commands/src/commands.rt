@@ -1,6 +1,6 @@
 //! What the chapters of Part 3 have of their own: structures of parameters, and replies of more than one.
 
-ghost use Rattle.std.specs.Prelude.{◌≡◌, ◌++◌, ◌∷◌, [], IfOk, OnOk};
+ghost use Rattle.std.specs.Prelude.{◌≡◌, ◌≤◌, ◌++◌, ◌∷◌, [], IfOk, OnOk};
 ghost use Rattle.tpm_wire.specs.Spelling.{spelling};
 ghost use Rattle.tpm_wire.specs.Buffers.{TakesNumbered, numbered};
 ghost use Rattle.tpm_wire.specs.ResponseCodes.{of_parameter as number_of_parameter};
@@ -23,9 +23,40 @@ use tpm_types::{Digest, OrDigests};
 use tpm_wire::response_code::of_parameter;
 use tpm_wire::{Cursor, Refusal, Wire};
 
-// ---- a command's only parameter
+// ---- parameters
 
-/// What is read, or its first fault.
+/// The parameter of this number, counted from 1, or its first fault.
+#[inline(always)]
+pub(crate) fn take_parameter<T: Wire>(cursor: &mut Cursor<'_>, number: u32) -> Result<T, Refusal>
+    requires { number ≤ 15 }
+    ensures reads { TakesNumbered (λ x. x) (numbered (number_of_parameter number) T.layout)
+        cursor.old cursor.new result }
+    ensures spelled { IfOk result
+        (λ x. cursor.old.here.rest ≡ spelling T.layout x ++ cursor.new.here.rest) }
+{
+    cursor.number(of_parameter(number));
+    T::take(cursor)
+}
+
+/// Reads it in the place of another one, or answers its first fault.
+#[inline(always)]
+pub(crate) fn read_parameter<T: Wire + Drop>(
+    cursor: &mut Cursor<'_>,
+    number: u32,
+    parameter: &mut T,
+) -> Result<(), Refusal>
+    requires { number ≤ 15 }
+    ensures reads { TakesNumbered (λ _. parameter.new)
+        (numbered (number_of_parameter number) T.layout)
+        cursor.old cursor.new result }
+    ensures spelled { OnOk result
+        (cursor.old.here.rest ≡ spelling T.layout parameter.new ++ cursor.new.here.rest) }
+{
+    cursor.number(of_parameter(number));
+    parameter.read(cursor)
+}
+
+/// The only parameter, out of line.
 #[inline(never)]
 pub(crate) fn take_only<T: Wire>(cursor: &mut Cursor<'_>) -> Result<T, Refusal>
     ensures reads { TakesNumbered (λ x. x) (numbered (number_of_parameter 1) T.layout)
@@ -33,11 +64,10 @@ pub(crate) fn take_only<T: Wire>(cursor: &mut Cursor<'_>) -> Result<T, Refusal>
     ensures spelled { IfOk result
         (λ x. cursor.old.here.rest ≡ spelling T.layout x ++ cursor.new.here.rest) }
 {
-    cursor.number(of_parameter(1));
-    T::take(cursor)
+    take_parameter(cursor, 1)
 }
 
-/// Reads it in the place of another one, or answers its first fault.
+/// Reads the only parameter in the place of another one.
 #[inline(always)]
 pub(crate) fn read_only<T: Wire + Drop>(
     cursor: &mut Cursor<'_>,
@@ -48,8 +78,7 @@ pub(crate) fn read_only<T: Wire + Drop>(
     ensures spelled { OnOk result
         (cursor.old.here.rest ≡ spelling T.layout only.new ++ cursor.new.here.rest) }
 {
-    cursor.number(of_parameter(1));
-    only.read(cursor)
+    read_parameter(cursor, 1, only)
 }
 
 /// The digests of a TPM2_PolicyOR that others are read in the place of: two, which are empty.

@@ -11,8 +11,8 @@ ghost use Rattle.tpm_commands.specs.Commands.Nv.{nv_define_space, nv_read, nv_re
 ghost use Rattle.tpm_commands.specs.Replies.{IsReplyTo};
 
 use crate::command::ReplyBody;
+use crate::commands::take_parameter;
 use tpm_types::{AuthValue, Name, NvPublic};
-use tpm_wire::response_code::of_parameter;
 use tpm_wire::{Cursor, Refusal, Room, Wire};
 
 // ---- TPM2_NV_DefineSpace (31.3)
@@ -34,10 +34,8 @@ impl NvDefineSpace {
             (λ p. cursor.old.here.rest
             ≡ spelling nv_define_space (params.NvDefineSpace p) ++ cursor.new.here.rest) }
     {
-        cursor.number(of_parameter(1));
-        let auth = AuthValue::take(cursor)?;
-        cursor.number(of_parameter(2));
-        let public = NvPublic::take(cursor)?;
+        let auth = take_parameter(cursor, 1)?;
+        let public = take_parameter(cursor, 2)?;
         Ok(NvDefineSpace { auth, public })
     }
 
@@ -85,10 +83,8 @@ pub(crate) fn read_nv_read_public_reply(
         (cursor.old.here.rest ≡ spelling nv_read_public_reply body.new ++ cursor.new.here.rest) }
     ensures own { OnOk result (IsReplyTo codes.NvReadPublic None body.new) }
 {
-    cursor.number(of_parameter(1));
-    let public = NvPublic::take(cursor)?;
-    cursor.number(of_parameter(2));
-    let name = Name::take(cursor)?;
+    let public = take_parameter(cursor, 1)?;
+    let name = take_parameter(cursor, 2)?;
     *body = ReplyBody::NvReadPublic { public, name };
     Ok(())
 }
@@ -140,10 +136,8 @@ impl NvRead {
             (λ p. cursor.old.here.rest
             ≡ spelling nv_read (params.NvRead p) ++ cursor.new.here.rest) }
     {
-        cursor.number(of_parameter(1));
-        let size = u16::take(cursor)?;
-        cursor.number(of_parameter(2));
-        let offset = u16::take(cursor)?;
+        let size = take_parameter(cursor, 1)?;
+        let offset = take_parameter(cursor, 2)?;
         Ok(NvRead { size, offset })
     }
 

@@ -11,9 +11,8 @@ ghost use Rattle.tpm_commands.specs.Commands.Pcr.{pcr_event_reply, pcr_extend, p
 ghost use Rattle.tpm_commands.specs.Replies.{code_for_reply, IsReplyTo};
 
 use crate::command::ReplyBody;
-use crate::commands::read_only;
+use crate::commands::{read_only, read_parameter};
 use tpm_types::{DigestValues, Digests, Selections};
-use tpm_wire::response_code::of_parameter;
 use tpm_wire::{Cursor, Refusal, Room, Wire};
 
 // ---- TPM2_PCR_Extend (22.2)
@@ -28,8 +27,7 @@ pub fn read_pcr_extend(cursor: &mut Cursor<'_>, digests: &mut DigestValues) -> R
         (cursor.old.here.rest
         ≡ spelling pcr_extend (params.PcrExtend digests.new) ++ cursor.new.here.rest) }
 {
-    cursor.number(of_parameter(1));
-    digests.read(cursor)
+    read_only(cursor, digests)
 }
 
 // ---- TPM2_PCR_Event (22.3)
@@ -87,12 +85,9 @@ pub(crate) fn read_pcr_read_reply(
             selections,
             digests,
         } => {
-            cursor.number(of_parameter(1));
-            *update_counter = u32::take(cursor)?;
-            cursor.number(of_parameter(2));
-            selections.read(cursor)?;
-            cursor.number(of_parameter(3));
-            digests.read(cursor)
+            read_parameter(cursor, 1, update_counter)?;
+            read_parameter(cursor, 2, selections)?;
+            read_parameter(cursor, 3, digests)
         }
         _ => unreachable!(),
     }

@@ -7,8 +7,8 @@ ghost use Rattle.tpm_commands.specs.Limits.{most_params};
 ghost use Rattle.tpm_commands.specs.declared.command.Params.TheVariants as params;
 ghost use Rattle.tpm_commands.specs.Commands.Policy.{policy_pcr};
 
+use crate::commands::read_parameter;
 use tpm_types::{Digest, Selections};
-use tpm_wire::response_code::of_parameter;
 use tpm_wire::{Cursor, Refusal, Room, Wire};
 
 // ---- TPM2_PolicyPCR (23.7)
@@ -29,10 +29,8 @@ impl PolicyPcr {
             (cursor.old.here.rest
             ≡ spelling policy_pcr (params.PolicyPcr self.new) ++ cursor.new.here.rest) }
     {
-        cursor.number(of_parameter(1));
-        self.pcr_digest.read(cursor)?;
-        cursor.number(of_parameter(2));
-        self.selections.read(cursor)
+        read_parameter(cursor, 1, &mut self.pcr_digest)?;
+        read_parameter(cursor, 2, &mut self.selections)
     }
 
     #[inline(always)]

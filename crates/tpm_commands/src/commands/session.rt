@@ -12,9 +12,10 @@ ghost use Rattle.tpm_commands.specs.Commands.Session.{start_auth_session, sessio
 ghost use Rattle.tpm_commands.specs.Replies.{IsReplyTo};
 
 use crate::command::ReplyBody;
+use crate::commands::{read_parameter, take_parameter};
 use crate::response::StartReply;
 use tpm_types::{Alg, EncryptedSalt, Nonce, SessionHandle, SessionType, SymDef};
-use tpm_wire::response_code::{of_handle, of_parameter};
+use tpm_wire::response_code::of_handle;
 use tpm_wire::{Cursor, Duplicate, Refusal, Room, Wire};
 
 // ---- TPM2_StartAuthSession (11.1)
@@ -51,16 +52,11 @@ impl StartParams {
             ≡ spelling start_auth_session (params.StartAuthSession self.new)
             ++ cursor.new.here.rest) }
     {
-        cursor.number(of_parameter(1));
-        self.nonce_caller.read(cursor)?;
-        cursor.number(of_parameter(2));
-        EncryptedSalt::take(cursor)?;
-        cursor.number(of_parameter(3));
-        self.session_type.read(cursor)?;
-        cursor.number(of_parameter(4));
-        self.symmetric.read(cursor)?;
-        cursor.number(of_parameter(5));
-        self.auth_hash.read(cursor)
+        read_parameter(cursor, 1, &mut self.nonce_caller)?;
+        take_parameter::<EncryptedSalt>(cursor, 2)?;
+        read_parameter(cursor, 3, &mut self.session_type)?;
+        read_parameter(cursor, 4, &mut self.symmetric)?;
+        read_parameter(cursor, 5, &mut self.auth_hash)
     }
 
     #[inline(always)]
@@ -146,8 +142,7 @@ pub(crate) fn read_start_auth_session_reply(
         ≡ spelling (start_auth_session_reply (session ∷ [])) body.new ++ cursor.new.here.rest) }
     ensures own { OnOk result (IsReplyTo codes.StartAuthSession (Some session) body.new) }
 {
-    cursor.number(of_parameter(1));
-    let nonce_tpm = Nonce::take(cursor)?;
+    let nonce_tpm = take_parameter(cursor, 1)?;
     *body = ReplyBody::StartAuthSession(StartReply { session, nonce_tpm });
     Ok(())
 }

@@ -6,9 +6,9 @@ ghost use Rattle.tpm_wire.specs.Buffers.{TakesNumbered};
 ghost use Rattle.tpm_commands.specs.declared.command.Params.TheVariants as params;
 ghost use Rattle.tpm_commands.specs.Commands.Startup.{startup};
 
+use crate::commands::take_parameter;
 use tpm_types::StartupType;
-use tpm_wire::response_code::of_parameter;
-use tpm_wire::{Cursor, Refusal, Wire};
+use tpm_wire::{Cursor, Refusal};
 
 // ---- TPM2_Startup (9.3)
 
@@ -22,6 +22,5 @@ pub fn take_startup(cursor: &mut Cursor<'_>) -> Result<StartupType, Refusal>
         (λ kind. cursor.old.here.rest
         ≡ spelling startup (params.Startup kind) ++ cursor.new.here.rest) }
 {
-    cursor.number(of_parameter(1));
-    StartupType::take(cursor)
+    take_parameter(cursor, 1)
 }
