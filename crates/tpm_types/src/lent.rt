@@ -6,8 +6,8 @@ ghost use Rattle.tpm_wire.specs.Structures.{sized_bytes};
 ghost use Rattle.tpm_wire.specs.Buffers.{Takes};
 
 use std::marker::Model;
-use tpm_wire::response_code::{INSUFFICIENT, SIZE};
-use tpm_wire::{Cursor, Refusal, Room, Wire, put_bytes};
+use tpm_wire::response_code::INSUFFICIENT;
+use tpm_wire::{Cursor, Refusal, Room, Wire, put_bytes, take_size};
 
 /// At most `N` bytes, lent from where they are. In a buffer their number lies before them, in 2 bytes.
 #[derive(Drop)]
@@ -54,11 +54,7 @@ impl<'a, const N: usize> Lent<'a, N> {
         ensures spelled { IfOk result
             (λ l. cursor.old.here.rest ≡ spelling (sized_bytes N) l ++ cursor.new.here.rest) }
     {
-        let refusal = cursor.refusal(SIZE);
-        let n = u16::take(cursor)? as usize;
-        if n > N {
-            return Err(refusal);
-        }
+        let n = take_size(cursor, N)?;
         match cursor.front(n) {
             Some(bytes) => Ok(Lent { bytes }),
             None => Err(cursor.refusal(INSUFFICIENT)),

@@ -1,12 +1,18 @@
 //! Structures of several fields: TPMS (Part 2, 10 to 13).
 
+ghost use Rattle.std.specs.Prelude.{◌≡◌, ◌++◌, OnOk};
+ghost use Rattle.tpm_wire.specs.Buffers.{TakesAs};
+ghost use Rattle.tpm_wire.specs.Spelling.{spelling};
+ghost use Rattle.tpm_types.specs.Tpms.{select_bytes};
+ghost use Rattle.tpm_types.specs.inner.Tpms.{select_size};
+
 use crate::alg::Alg;
 use crate::handles::{AuthSession, NvIndex, PcrIndex};
 use crate::limits::PUBLIC_BYTES;
 use crate::tpm2b::{AuthValue, Digest, Nonce};
 use crate::tpma::{NvAttrs, SessionAttrs};
-use tpm_wire::response_code::{INSUFFICIENT, SIZE, VALUE};
-use tpm_wire::{Cursor, Duplicate, Refusal, Room, Wire, put_bytes};
+use tpm_wire::response_code::{INSUFFICIENT, VALUE};
+use tpm_wire::{Cursor, Duplicate, Refusal, Room, Wire, put_bytes, take_size};
 
 /// How many bytes of bits a selection has, one bit for each register.
 pub const SELECT_BYTES: usize = 3;
@@ -37,6 +43,20 @@ impl Selection {
         let i = register.number() as usize;
         self.select[i / 8] & (1 << (i % 8)) != 0
     }
+}
+
+/// Reads the number of a selection's bytes, which is 3, else VALUE.
+#[inline(always)]
+fn take_select_size(cursor: &mut Cursor<'_>) -> Result<(), Refusal>
+    ensures reads { TakesAs (λ _. select_bytes) select_size cursor.old cursor.new result }
+    ensures spelled { OnOk result
+        (cursor.old.here.rest ≡ spelling select_size select_bytes ++ cursor.new.here.rest) }
+{
+    let refusal = cursor.refusal(VALUE);
+    if u8::take(cursor)? as usize != SELECT_BYTES {
+        return Err(refusal);
+    }
+    Ok(())
 }
 
 /// A hash, else HASH; the number of bytes, 3, else VALUE; the bytes.
@@ -73,11 +93,7 @@ impl Wire for Selection {
         Self: Drop,
     {
         self.hash = Alg::take(cursor)?;
-        let refusal = cursor.refusal(VALUE);
-        let size = u8::take(cursor)? as usize;
-        if size != SELECT_BYTES {
-            return Err(refusal);
-        }
+        take_select_size(cursor)?;
         match cursor.array() {
             Some(select) => {
                 self.select = select;
@@ -301,11 +317,7 @@ impl Wire for NvPublic {
     }
 
     fn take(cursor: &mut Cursor<'_>) -> Result<Self, Refusal> {
-        let refusal = cursor.refusal(SIZE);
-        let size = u16::take(cursor)? as usize;
-        if size > PUBLIC_BYTES {
-            return Err(refusal);
-        }
+        let size = take_size(cursor, PUBLIC_BYTES)?;
         let outer = cursor.enter(size)?;
         let public = NvPublic::take_area(cursor)?;
         cursor.leave(outer)?;

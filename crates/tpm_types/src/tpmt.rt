@@ -43,6 +43,16 @@ impl HashedDigest {
         Some(HashedDigest { hash, bytes })
     }
 
+    // Makes it this digest under its hash.
+    #[inline(always)]
+    fn set(&mut self, hash: Alg, digest: &[u8])
+        requires { length digest.now ≡ digest_len hash }
+        ensures { self.new ≡ (hash, digest.now) }
+    {
+        self.hash = hash;
+        self.bytes[..digest.len()].copy_from_slice(digest);
+    }
+
     /// The hash.
     pub fn hash(&self) -> Alg
         ensures { result ≡ self.now.0 }
@@ -115,11 +125,11 @@ impl Wire for HashedDigest {
     where
         Self: Drop,
     {
-        self.hash = Alg::take(cursor)?;
-        let len = self.hash.digest_len();
+        let hash = Alg::take(cursor)?;
+        let len = hash.digest_len();
         match cursor.front(len) {
             Some(digest) => {
-                self.bytes[..len].copy_from_slice(digest);
+                self.set(hash, digest);
                 Ok(())
             }
             None => Err(cursor.refusal(INSUFFICIENT)),
