@@ -68,7 +68,29 @@ fn begin_pcr_read(body: &mut ReplyBody)
     }
 }
 
+// Reads what it has in the place of others.
 #[tactic(auto, unfolding(crate::specs::Commands::Pcr::pcr_read_reply))]
+#[inline(always)]
+fn read_values(
+    cursor: &mut Cursor<'_>,
+    update_counter: &mut u32,
+    selections: &mut Selections,
+    digests: &mut Digests,
+) -> Result<(), Refusal>
+    ensures reads { TakesNumbered
+        (λ _. replies.PcrRead update_counter.new selections.new digests.new) pcr_read_reply
+        cursor.old cursor.new result }
+    ensures spelled { OnOk result
+        (cursor.old.here.rest
+        ≡ spelling pcr_read_reply
+        (replies.PcrRead update_counter.new selections.new digests.new)
+        ++ cursor.new.here.rest) }
+{
+    read_parameter(cursor, 1, update_counter)?;
+    read_parameter(cursor, 2, selections)?;
+    read_parameter(cursor, 3, digests)
+}
+
 pub(crate) fn read_pcr_read_reply(
     cursor: &mut Cursor<'_>,
     body: &mut ReplyBody,
@@ -84,11 +106,7 @@ pub(crate) fn read_pcr_read_reply(
             update_counter,
             selections,
             digests,
-        } => {
-            read_parameter(cursor, 1, update_counter)?;
-            read_parameter(cursor, 2, selections)?;
-            read_parameter(cursor, 3, digests)
-        }
+        } => read_values(cursor, update_counter, selections, digests),
         _ => unreachable!(),
     }
 }
