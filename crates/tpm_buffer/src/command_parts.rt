@@ -8,7 +8,9 @@ ghost use Rattle.tpm_wire.specs.Buffers.{Takes, TakesNumbered};
 ghost use Rattle.tpm_types.specs.Limits.{digest_bytes};
 ghost use Rattle.tpm_types.specs.declared.tpms.Auth.{Auth};
 ghost use Rattle.tpm_types.specs.Tpms.{auth_command};
-ghost use Rattle.tpm_buffer.specs.Commands.{is_tag, command_size, header, sessions, authorization};
+ghost use Rattle.tpm_types.specs.CommandCodes.{command_code};
+ghost use Rattle.tpm_buffer.specs.Commands.{is_tag, tag, command_size, header, sessions, authorization_size};
+ghost use Rattle.tpm_buffer.specs.Commands.{authorization};
 ghost use Rattle.tpm_buffer.specs.Parts.{tag_for};
 
 use crate::response_sessions::{self, ReplyRef};
@@ -53,7 +55,36 @@ pub(crate) fn take_size(cursor: &mut Cursor<'_>) -> Result<u32, Refusal>
     Ok(size)
 }
 
-#[tactic(auto, unfolding(crate::specs::Commands::header, crate::specs::Commands::tag, tpm_types::specs::CommandCodes::command_code))]
+#[tactic(auto, unfolding(crate::specs::Commands::tag))]
+#[inline(always)]
+fn take_tag(cursor: &mut Cursor<'_>) -> Result<u16, Refusal>
+    ensures reads { Takes tag cursor.old cursor.new result }
+    ensures spelled { IfOk result
+        (λ t. cursor.old.here.rest ≡ spelling tag t ++ cursor.new.here.rest) }
+    ensures tag { IfOk result (λ t. is_tag t ≡ true) }
+    ensures two { IfOk result
+        (λ t. length cursor.old.here.rest ≡ 2 + length cursor.new.here.rest) }
+{
+    let refusal = cursor.refusal(BAD_TAG);
+    let tag = u16::take(cursor)?;
+    if tag != NO_SESSIONS && tag != SESSIONS {
+        return Err(refusal);
+    }
+    Ok(tag)
+}
+
+#[tactic(auto, unfolding(tpm_types::specs::CommandCodes::command_code))]
+#[inline(always)]
+fn take_code(cursor: &mut Cursor<'_>) -> Result<CommandCode, Refusal>
+    ensures reads { Takes command_code cursor.old cursor.new result }
+    ensures spelled { IfOk result
+        (λ code. cursor.old.here.rest ≡ spelling command_code code ++ cursor.new.here.rest) }
+{
+    let refusal = cursor.refusal(COMMAND_CODE);
+    CommandCode::from_number(u32::take(cursor)?).ok_or(refusal)
+}
+
+#[tactic(auto, unfolding(crate::specs::Commands::header))]
 #[inline(always)]
 pub(crate) fn take_header(cursor: &mut Cursor<'_>) -> Result<Header, Refusal>
     requires { cursor.old.number ≡ 0 }
@@ -63,14 +94,9 @@ pub(crate) fn take_header(cursor: &mut Cursor<'_>) -> Result<Header, Refusal>
     ensures tag { IfOk result (λ x. is_tag x.tag ≡ true) }
     ensures size { IfOk result (λ x. x.size ≡ length cursor.old.here.rest) }
 {
-    let bad_tag = cursor.refusal(BAD_TAG);
-    let tag = u16::take(cursor)?;
-    if tag != NO_SESSIONS && tag != SESSIONS {
-        return Err(bad_tag);
-    }
+    let tag = take_tag(cursor)?;
     let size = take_size(cursor)?;
-    let unknown = cursor.refusal(COMMAND_CODE);
-    let code = CommandCode::from_number(u32::take(cursor)?).ok_or(unknown)?;
+    let code = take_code(cursor)?;
     Ok(Header { tag, size, code })
 }
 
@@ -230,9 +256,26 @@ impl<'a> SessionList<'a> for ArrayVec<Auth, 3> {
     }
 }
 
+// authorizationSize: of one session at least, and of what is left of the buffer at most.
+#[tactic(auto, unfolding(crate::specs::Commands::authorization_size))]
+#[inline(always)]
+fn take_authorization_size(cursor: &mut Cursor<'_>) -> Result<u32, Refusal>
+    ensures reads { Takes authorization_size cursor.old cursor.new result }
+    ensures spelled { IfOk result
+        (λ n. cursor.old.here.rest ≡ spelling authorization_size n ++ cursor.new.here.rest) }
+    ensures fits { IfOk result (λ n. (9 ≤ n) × (n ≤ length cursor.new.here.rest)) }
+{
+    let refusal = cursor.refusal(AUTHSIZE);
+    let size = u32::take(cursor)?;
+    if size < 9 || size as usize > cursor.left() {
+        return Err(refusal);
+    }
+    Ok(size)
+}
+
 /// Reads the sessions of a command with this tag, none for another than 0x8002, in the place of others; or answers the
 /// authorization area's first fault, as `Handled::areas` does (Part 1, "Command/Response Structure").
-#[tactic(auto, unfolding(crate::specs::Commands::authorization, crate::specs::Commands::authorization_size))]
+#[tactic(auto, unfolding(crate::specs::Commands::authorization))]
 pub(crate) fn read_authorization<'a, S: SessionList<'a>>(
     cursor: &mut Cursor<'a>,
     tag: u16,
@@ -251,11 +294,7 @@ pub(crate) fn read_authorization<'a, S: SessionList<'a>>(
         return Ok(());
     }
     cursor.number(0);
-    let refusal = cursor.refusal(AUTHSIZE);
-    let size = u32::take(cursor)?;
-    if size < 9 || size as usize > cursor.left() {
-        return Err(refusal);
-    }
+    let size = take_authorization_size(cursor)?;
     let behind = cursor.enter(size as usize)?;
     auths.read_sessions(cursor)?;
     cursor.number(0);
