@@ -1,6 +1,6 @@
 //! The words of the subcommand `check`, of which those on a quote as it was signed are those of `events`, too.
 
-ghost use Rattle.std.specs.Prelude.{◌≡◌, ℕ, Option, List, MatchOption, MatchResult, codes, false, is_some, true};
+ghost use Rattle.std.specs.Prelude.{◌≡◌, ℕ, Option, List, MatchOption, MatchResult, Some, codes, false, is_some, true};
 ghost use Rattle.std.specs.Global.{Vec as VecValue};
 ghost use Rattle.clap.specs.Words.{first_value, found_of};
 ghost use Rattle.tpm_types.specs.Alg.{alg_name};
@@ -8,7 +8,7 @@ ghost use Rattle.tpm_types.specs.declared.alg.Alg.{Alg as AlgValue};
 ghost use Rattle.tpm_types.specs.declared.tpms.Selection.{Selection as SelectionValue};
 ghost use Rattle.tpm_options.specs.declared.CheckOptions.{CheckOptions as CheckOptionsValue};
 ghost use Rattle.tpm_args.specs.inner.Stop.{IsAsked, IsMemoryOr};
-ghost use Rattle.tpm_args.specs.Task.{AreOptions, DigestsGoTogether, GoTogether, form_asked, has_neither, is_alone};
+ghost use Rattle.tpm_args.specs.Task.{AreFiles, AreOptions, DigestsGoTogether, GoTogether, form_asked, has_neither, is_alone};
 ghost use Rattle.tpm_args.specs.Task.{is_uncompared, IsExpected, IsHashExpected, IsRequired};
 
 use crate::bytes::bytes_in;
@@ -35,13 +35,23 @@ pub(crate) fn check_task<'a>(usage: Usage, words: &ArgMatches<'a>) -> Asked<'a>
         check_words(usage, alone, "--listed goes with --json alone")?;
         return Ok(Task::CheckListed(log_task(words, log)));
     }
-    let files = CheckFiles {
+    Ok(Task::Check(CheckTask {
+        files: files(words, log),
+        options,
+    }))
+}
+
+// This log, and what it is compared with.
+fn files<'a>(words: &ArgMatches<'a>, log: &'a str) -> CheckFiles<'a>
+    requires { first_value (found_of words.now) (codes "LOG") ≡ Some log.now }
+    ensures { AreFiles (first_value (found_of words.now)) result }
+{
+    CheckFiles {
         log,
         registers: words.get_str("registers"),
         attest: words.get_str("attest"),
         allow: words.get_str("allow"),
-    };
-    Ok(Task::Check(CheckTask { files, options }))
+    }
 }
 
 /// This log, by itself.

@@ -5,7 +5,7 @@ ghost use Rattle.clap.specs.Words.{first_value, found_of};
 ghost use Rattle.tpm_names.specs.declared.selection.RegisterList.{RegisterList as RegisterListValue};
 ghost use Rattle.tpm_names.specs.Selections.{IsRegisterList};
 ghost use Rattle.tpm_args.specs.inner.Stop.{IsAsked, IsMemoryOr};
-ghost use Rattle.tpm_args.specs.Task.{is_bare, IsValueIf};
+ghost use Rattle.tpm_args.specs.Task.{is_bare, IsListing, IsValueIf};
 
 use crate::check::{log_task, options};
 use crate::given::{form_asked, has, is_given};
@@ -29,19 +29,27 @@ pub(crate) fn events_task<'a>(usage: Usage, words: &ArgMatches<'a>) -> Asked<'a>
         check_words(usage, is_bare(words), "--header goes with --json alone")?;
         return Ok(Task::EventsHeader(log_task(words, log)));
     }
-    let listing = Listing {
+    Ok(Task::Events(EventsTask {
+        log,
+        attest: words.get_str("attest"),
+        listing: listing(words, registers),
+        options,
+    }))
+}
+
+// What is listed of these registers, or of all.
+fn listing<'a>(words: &ArgMatches<'_>, registers: Option<RegisterList<'a>>) -> Listing<'a>
+    requires { IsValueIf IsRegisterList
+        (first_value (found_of words.now) (codes "register")) registers }
+    ensures { IsListing (first_value (found_of words.now)) result }
+{
+    Listing {
         registers,
         places: is_given(words, "places"),
         digests: is_given(words, "digests"),
         event_data: is_given(words, "data"),
         form: form_asked(words),
-    };
-    Ok(Task::Events(EventsTask {
-        log,
-        attest: words.get_str("attest"),
-        listing,
-        options,
-    }))
+    }
 }
 
 // Whether no registers, no quote and nothing of a record is asked for.

@@ -26,8 +26,9 @@ impl Usage {
 pub(crate) fn nothing_asked(alloc: Global) -> Result<Stop, AllocError>
     ensures { IfOk result (IsMemoryOr (Unit {0})) }
 {
-    let usage = program_words(alloc, "")?.render_usage()?;
-    Ok(Stop::Usage(format!(in alloc; "{usage}\n")?))
+    let mut usage = program_words(alloc, "")?.render_usage()?;
+    usage.push('\n')?;
+    Ok(Stop::Usage(usage))
 }
 
 /// The usage fault of words for this reason, as of words that don't go together.
