@@ -8,8 +8,8 @@ ghost use Rattle.tpm_types.specs.declared.alg.Alg.{Alg as AlgValue};
 ghost use Rattle.tpm_types.specs.declared.tpms.Selection.{Selection as SelectionValue};
 ghost use Rattle.tpm_options.specs.declared.CheckOptions.{CheckOptions as CheckOptionsValue};
 ghost use Rattle.tpm_args.specs.inner.Stop.{IsAsked, IsMemoryOr};
-ghost use Rattle.tpm_args.specs.Task.{AreFiles, AreOptions, DigestsGoTogether, GoTogether, form_asked, has_neither, is_alone};
-ghost use Rattle.tpm_args.specs.Task.{is_uncompared, IsExpected, IsHashExpected, IsRequired};
+ghost use Rattle.tpm_args.specs.Task.{AreFiles, AreOptions, DigestsGoTogether, GoTogether, form_asked, has_neither};
+ghost use Rattle.tpm_args.specs.Task.{is_alone, is_uncompared, IsExpected, IsHashExpected, IsRequired};
 
 use crate::bytes::bytes_in;
 use crate::given::{form_asked, has, is_given};
