@@ -1,20 +1,16 @@
 -- A log beside a quote and a list of allowed digests.
-use Rattle.std.proofs.Common.{◌≡◌, List, ℕ, ◌++◌, ap, ◌∙◌, append_assoc, false, inl, refl, subst, sym, Ok, Some}
+use Rattle.std.proofs.Common.{◌≡◌, List, ℕ, ◌++◌, ap, ◌∙◌, append_assoc, false, refl, subst, sym, Some}
 use Rattle.std.specs.Prelude.{MatchOption, Option}
 use Rattle.tpm_types.specs.declared.tpms.Selection.{Selection}
 use Rattle.tpm_pcr.specs.Registers.{Registers, value_in}
-use Rattle.tpm_log.specs.Changes.{AreAfter}
-use Rattle.tpm_log.specs.Events.{ParsedLog, Parses}
-use Rattle.tpm_log.specs.Replays.{Replays}
 use Rattle.tpm_options.specs.declared.CheckOptions.{CheckOptions}
 use Rattle.tpm_vouched.specs.declared.allowed.AllowedDigest.{AllowedDigest}
 use Rattle.tpm_output.specs.declared.status.Status.TheVariants.{Done, Refused}
 use Rattle.tpm_output.specs.declared.status.Status.{Status}
 use Rattle.tpm_output.specs.Status.{both}
-use Rattle.tpm_check.specs.AllowedBoot.{ChecksBeside, QuoteFiles, SaysBeside, VouchedLog, on_digests, on_selected}
-use Rattle.tpm_check.specs.Asked.{Asked}
-use Rattle.tpm_check.specs.CheckAttest.{ChecksAttest, IsFollowed, Says, Selects, behind, ended}
-use Rattle.tpm_check.specs.CheckJson.{ok_text}
+use Rattle.tpm_check.specs.AllowedBoot.{ChecksBeside, SaysBehind, VouchedLog, on_digests, on_selected}
+use Rattle.tpm_check.specs.Asked.{Asked, AskedQuote}
+use Rattle.tpm_check.specs.CheckAttest.{ChecksAttest, IsFollowed, OnDone, Says, Selects, behind, ended}
 use Rattle.tpm_check.specs.Compare.{Verdict, beside, printed}
 use Rattle.tpm_check.specs.QuotedBoot.{ChecksBoot}
 use Rattle.tpm_check.specs.SecureBootLines.{TellsSecureBoot}
@@ -34,39 +30,49 @@ pub selected_digests : (q : VouchedLog) (allow : List ℕ) (digests : List Allow
     → on_selected (Some allow) q ≡ on_digests q digests
 selected_digests q allow digests are no-boot = rw (no-boot, are.0, are.1) refl
 
--- ---- a log beside a quote
+-- ---- behind a quote
 
-module _ (o : CheckOptions) (g : QuoteFiles) (found : Registers) (l : ParsedLog) (first v : Verdict)
-    (checks : ChecksAttest (beside o.form (value_in found.banks)) o g.attest first) where
-  abbrev next : List Selection → Verdict
-  next selections = on_selected g.allow (record { options = o; selections = selections; log = l })
-
+module _ (q : AskedQuote) (found : Registers) (next : List Selection → Verdict) (first v : Verdict)
+    (checks : ChecksAttest (beside q.options.form (value_in found.banks)) q.options q.attest first) where
   -- a quote that isn't the one that was asked for
-  pub said_alone : first.status ≡ Refused → v.status ≡ Refused → v.text ≡ first.text ++ ok_text o.form Refused → SaysBeside o g found l v
-  said_alone is same text =
-      let alone : IsFollowed g.attest next first first = rw is (refl, refl) in
-      let says : Says (ended o.form first) v.status v.text = rw is (same, text) in
+  pub said_alone : first.status ≡ Refused → Says (ended q.options.form first) v.status v.text → SaysBehind q found next v
+  said_alone is says =
+      let alone : IsFollowed q.attest next first first = rw is (refl, refl) in
       (first, first, checks, alone, says)
 
   -- the one that was asked for
-  pub said_behind : first.status ≡ Done → (selections : List Selection) → Selects g.attest selections
+  pub said_behind : first.status ≡ Done → (selections : List Selection) → Selects q.attest selections
       → (status : Status) (text : List ℕ) → Adds (next selections) status first.text text
-      → v.status ≡ status → v.text ≡ text ++ ok_text o.form status → SaysBeside o g found l v
-  said_behind done selections selects status text adds same is =
+      → Says (ended q.options.form (printed status text)) v.status v.text → SaysBehind q found next v
+  said_behind done selections selects status text adds says =
       let w = next selections in
       let last = behind first w in
-      let followed : IsFollowed g.attest next first last = rw done (selections, selects, (refl, refl)) in
-      let told : v.text ≡ (first.text ++ w.text) ++ ok_text o.form w.status =
-      is ∙ ap (λ (t : List ℕ). t ++ ok_text o.form status) adds.1 ∙ ap (λ (s : Status). (first.text ++ w.text) ++ ok_text o.form s) adds.0 in
-      let says : Says (ended o.form last) v.status v.text = rw done (same ∙ adds.0, told) in
-      (first, last, checks, followed, says)
+      let followed : IsFollowed q.attest next first last = rw done (selections, selects, (refl, refl)) in
+      let same : printed status text ≡ last =
+      rw done (ap (λ (s : Status). printed s text) adds.0 ∙ ap (printed w.status) adds.1) in
+      (first, last, checks, followed, subst (λ (u : Verdict). Says (ended q.options.form u) v.status v.text) same says)
 
--- That is what is printed of a log.
-pub checks_beside : (o : CheckOptions) (g : QuoteFiles) (bytes : List ℕ) (found : Registers) (l : ParsedLog) (status same : Status) (text : List ℕ)
-    → Parses bytes (Ok l) → Replays AreAfter bytes (Ok found) → same ≡ status → SaysBeside o g found l (printed status text)
-    → ChecksBeside o g bytes same text
-checks_beside o g bytes found l status same text parses replays equal says =
-    inl (l, parses, (found, replays, subst (λ (s : Status). SaysBeside o g found l (printed s text)) (sym equal) says))
+on_done : (P Q R : Type 0) (status : Status) → (P → Q) → OnDone status P R → OnDone status Q R
+on_done P Q R Done f holds = f holds
+on_done P Q R Refused f holds = holds
+
+-- what follows a quote that is the one asked for
+abbrev Follows : (attest : List ℕ) → (next : List Selection → Verdict) → (first last : Verdict) → Type 0
+Follows attest next first last =
+    (selections : List Selection) × Selects attest selections × Says (behind first (next selections)) last.status last.text
+
+-- It may be said in other words.
+module _ (q : AskedQuote) (next other : List Selection → Verdict) (same : (selections : List Selection) → next selections ≡ other selections) where
+  follows : (first last : Verdict) → Follows q.attest next first last → Follows q.attest other first last
+  follows first last f = (f.0, f.1, subst (λ (w : Verdict). Says (behind first w) last.status last.text) (same f.0) f.2)
+
+  pub said_likewise : (found : Registers) (v : Verdict) → SaysBehind q found next v → SaysBehind q found other v
+  said_likewise found v says =
+      let first = says.0 in
+      let last = says.1 in
+      let one = Follows q.attest next first last in
+      let another = Follows q.attest other first last in
+      (first, last, says.2, on_done one another (Says first last.status last.text) first.status (follows first last) says.3, says.4)
 
 -- ---- what is asked beside both
 

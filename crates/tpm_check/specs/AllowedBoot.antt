@@ -14,6 +14,7 @@ use Rattle.tpm_output.specs.InputLines.{most_bytes}
 use Rattle.tpm_lists.specs.AllowLines.{AllowRead, allowed_in}
 use Rattle.tpm_lists.specs.Extensions.{extensions_in}
 use Rattle.tpm_check.specs.AllowTold.{on_found}
+use Rattle.tpm_check.specs.Asked.{AskedQuote}
 use Rattle.tpm_check.specs.CheckAttest.{ChecksAttest, IsFollowed, Says, behind, ended}
 use Rattle.tpm_check.specs.Compare.{Verdict, beside, fault_told, not_a_register_text, printed, refused}
 use Rattle.tpm_check.specs.SecureBootLines.{TellsLog, on_log, quoted_banks}
@@ -62,15 +63,23 @@ pub record QuoteFiles : Type 0 where
   pub attest : List ℕ
   pub allow : Option (List ℕ)
 
--- What the quote says beside the registers that the log gives comes first, and behind a quote that is the one asked for
--- what is said of what it selects.
-abbrev pub SaysBeside : CheckOptions → QuoteFiles → Registers → ParsedLog → Verdict → Type 0
-SaysBeside o g found l v =
+-- What a quote says beside registers comes first, and behind one that is the one asked for what is said of what it
+-- selects.
+abbrev pub SaysBehind : AskedQuote → Registers → (next : List Selection → Verdict) → Verdict → Type 0
+SaysBehind q found next v =
     (first last : Verdict)
-    × ChecksAttest (beside o.form (value_in found.banks)) o g.attest first
-    × IsFollowed g.attest (λ selections. on_selected g.allow (record { options = o; selections = selections; log = l }))
-    first last
-    × Says (ended o.form last) v.status v.text
+    × ChecksAttest (beside q.options.form (value_in found.banks)) q.options q.attest first
+    × IsFollowed q.attest next first last
+    × Says (ended q.options.form last) v.status v.text
+
+-- what is said of a log by what a quote selects
+abbrev pub on_quoted : CheckOptions → (allow : Option (List ℕ)) → ParsedLog → List Selection → Verdict
+on_quoted o allow l selections = on_selected allow (record { options = o; selections = selections; log = l })
+
+-- beside the registers that the log gives
+abbrev pub SaysBeside : CheckOptions → QuoteFiles → Registers → ParsedLog → Verdict → Type 0
+SaysBeside o g found l =
+    SaysBehind (record { options = o; attest = g.attest }) found (on_quoted o g.allow l)
 
 -- That is printed of a log, with the status behind it where it is told as objects.
 abbrev pub ChecksBeside : CheckOptions → QuoteFiles → List ℕ → Status → List ℕ → Type 0

@@ -2,5 +2,6 @@
 pub mod AllowedBoot
 pub mod CheckAttest
 pub mod Comparing
+pub mod Kinds
 pub mod SecureBootLines
 pub mod Told

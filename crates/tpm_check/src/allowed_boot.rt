@@ -1,43 +1,35 @@
 //! The subcommand `check` of a list of allowed digests, beside a quote as it was signed.
 
-ghost use Rattle.std.specs.Prelude.{◌≡◌, ◌<◌, ◌^◌, ℕ, List, Some, false, map, IfOk, IfSome, IsErrOf};
+ghost use Rattle.std.specs.Prelude.{◌≡◌, ◌<◌, ◌^◌, ℕ, List, Some, false, IfOk, IfSome, IsErrOf};
 ghost use Rattle.std.specs.Prelude.{length, option_map, string_bytes};
-ghost use Rattle.std.specs.Io.KnownBytes.{Appends};
 ghost use Rattle.tpm_wire.specs.Sources.{IsWhereItFailed};
-ghost use Rattle.tpm_log.specs.Events.{ParsedLog, shown};
 ghost use Rattle.tpm_events.specs.ListEvents.{most_read};
 ghost use Rattle.tpm_output.specs.declared.fault.ToolFault.TheVariants.{InputTooLong, Read};
-ghost use Rattle.tpm_output.specs.Faults.{FailsByMemoryOrWrite};
 ghost use Rattle.tpm_output.specs.InputLines.{CountsRead};
 ghost use Rattle.tpm_output.specs.Reads.{ReadsNoMore, ReadsUpTo};
-ghost use Rattle.tpm_lists.specs.Extensions.{extensions_in};
 ghost use Rattle.tpm_lists.specs.LookingUp.{IsLookedUp};
-ghost use Rattle.tpm_check.specs.AllowedBoot.{ChecksBeside, SaysBeside, boot_if, on_boot, on_digests};
-ghost use Rattle.tpm_check.specs.AllowedBoot.{on_list, on_selected};
-ghost use Rattle.tpm_check.specs.Compare.{printed};
+ghost use Rattle.tpm_check.specs.AllowedBoot.{ChecksBeside, boot_if, on_boot, on_digests, on_list, on_quoted};
+ghost use Rattle.tpm_check.specs.AllowedBoot.{on_selected};
 ghost use Rattle.tpm_check.specs.inner.AllowedBoot.{AreAllOf, vouched_log};
 ghost use Rattle.tpm_check.specs.inner.CheckAttest.{Adds};
 
 use crate::allow_told::AllowTold;
-use crate::beside::Beside;
-use crate::check_json::{push_fault, push_ok};
-use crate::checked::tell_fault;
+use crate::asked::AskedQuote;
+use crate::behind::{Behind, answer_beside};
+use crate::check_json::{log_fault_answer, push_fault};
 use crate::compared::MOST_BYTES;
-use crate::judged::answer_to_attest;
-use crate::quoted_boot::{quoted_banks, selected};
+use crate::quoted_boot::quoted_banks;
 use crate::register_text::push_not_a_register;
 use crate::told_secure_boot::push_log;
 use std::alloc::{AllocError, Global};
-use std::io::Write;
 use tpm_events::listed_events::MOST_READ;
-use tpm_lists::{AllowIndex, AllowedLine, Extension, LookedUp, look_up, read_allowed, unknown_in};
+use tpm_lists::{AllowIndex, AllowedLine, LookedUp, look_up, read_allowed, unknown_in};
 use tpm_log::Log;
 use tpm_options::CheckOptions;
 use tpm_output::answer::Answer;
 use tpm_output::fault::ToolFault;
 use tpm_output::reads::read_up_to;
 use tpm_output::status::Status;
-use tpm_pcr::Registers;
 use tpm_types::Selections;
 use tpm_wire::Source;
 
@@ -127,62 +119,52 @@ impl<'a, 'b, 'c> VouchedLog<'a, 'b, 'c> {
     }
 }
 
-// What is printed of a log beside a quote.
-fn answer_beside(
+// A log, with the bytes of a list where there is one.
+#[derive(Clone, Copy)]
+struct LogBeside<'a, 'b, 'c> {
     alloc: Global,
-    options: &CheckOptions<'_>,
-    attest: &[u8],
-    allow: Option<&[u8]>,
-    log: &Log<'_>,
-    registers: &Registers,
-) -> Result<Answer, AllocError>
-    ensures { IfOk result (λ a. SaysBeside options.now
-        (record { attest = attest.now; allow = option_map (λ a. a.now) allow.entry })
-        registers.now log.now (printed a.status (string_bytes a.text))) }
-{
-    let form = options.form;
-    let first = answer_to_attest(alloc, &Beside { registers, form }, options, attest)?;
-    let mut text = first.text;
-    match first.status {
-        Status::Refused => {
-            push_ok(&mut text, form, Status::Refused)?;
-            Ok(Answer::refused(text))
-        }
-        Status::Done => {
-            let quoted = &selected(attest);
-            let vouched = VouchedLog {
-                options,
-                quoted,
-                log,
-            };
-            let status = vouched.push(alloc, &mut text, allow)?;
-            push_ok(&mut text, form, status)?;
-            Ok(Answer { status, text })
-        }
+    options: &'c CheckOptions<'a>,
+    log: &'c Log<'b>,
+    allow: Option<&'c [u8]>,
+}
+
+impl<'a, 'b, 'c> Behind for LogBeside<'a, 'b, 'c> {
+    ghost says = { λ b. on_quoted b.options.now (option_map (λ a. a.now) b.allow) b.log.now };
+
+    fn push(&self, text: &mut String, quoted: &Selections) -> Result<Status, AllocError> {
+        let vouched = VouchedLog {
+            options: self.options,
+            quoted,
+            log: self.log,
+        };
+        vouched.push(self.alloc, text, self.allow)
     }
 }
 
-/// Prints what is said of a log beside a quote, and a list of allowed digests where there is one, or its fault.
-pub(crate) fn print_beside<W: Write>(
+/// What is printed of the log that these bytes are, beside a quote and a list of allowed digests where there is one.
+pub(crate) fn answer_to_log(
     alloc: Global,
-    options: &CheckOptions<'_>,
-    attest: &[u8],
+    quote: AskedQuote<'_, '_>,
     allow: Option<&[u8]>,
     bytes: &[u8],
-    out: &mut W,
-) -> Result<Status, ToolFault>
-    ensures ok { IfOk result (λ status. (text : List ℕ)
-        × ChecksBeside options.now
-        (record { attest = attest.now; allow = option_map (λ a. a.now) allow.entry })
-        bytes.now status text
-        × Appends (W.contents out.old) (W.contents out.new) text) }
-    ensures err { FailsByMemoryOrWrite result }
+) -> Result<Answer, AllocError>
+    ensures { IfOk result (λ a. ChecksBeside quote.entry.options.now
+        (record { attest = quote.entry.attest.now; allow = option_map (λ a. a.now) allow.entry })
+        bytes.now a.status (string_bytes a.text)) }
 {
+    let options = quote.options;
     match Log::replayed(bytes) {
         Ok((log, registers)) => {
-            answer_beside(alloc, options, attest, allow, &log, &registers)?.print(out)
+            let log = &log;
+            let behind = LogBeside {
+                alloc,
+                options,
+                log,
+                allow,
+            };
+            answer_beside(alloc, quote, &registers, &behind)
         }
-        Err(fault) => tell_fault(alloc, options.form, &fault, out),
+        Err(fault) => log_fault_answer(alloc, options.form, &fault),
     }
 }
 
@@ -200,97 +182,58 @@ fn digests_of(alloc: Global, bytes: &[u8]) -> Result<Option<Vec<AllowedLine<'_>>
     }
 }
 
-// What is printed of a log beside a quote and these digests, by the registers that it gives and those of its digests
-// that aren't among them.
-fn answer_to_quoted(
+// What is printed of a log that was looked up in these digests, or its fault.
+fn answer_to_found(
     alloc: Global,
-    options: &CheckOptions<'_>,
-    attest: &[u8],
-    list: &AllowIndex<'_>,
-    registers: &Registers,
-    found: &[Extension],
-) -> Result<Answer, AllocError>
-    requires { options.now.secure_boot ≡ false }
-    ensures { IfOk result (λ a. (allow : List ℕ) (l : ParsedLog)
-        → AreAllOf allow list.now
-        → found.now ≡ extensions_in (Some list.now) l.size (map shown l.records)
-        → SaysBeside options.now (record { attest = attest.now; allow = Some allow })
-        registers.now l (printed a.status (string_bytes a.text))) }
-{
-    let form = options.form;
-    let first = answer_to_attest(alloc, &Beside { registers, form }, options, attest)?;
-    let mut text = first.text;
-    match first.status {
-        Status::Refused => {
-            push_ok(&mut text, form, Status::Refused)?;
-            Ok(Answer::refused(text))
-        }
-        Status::Done => {
-            let told = AllowTold { list, found, form };
-            let status = told.push(&mut text, &selected(attest))?;
-            push_ok(&mut text, form, status)?;
-            Ok(Answer { status, text })
-        }
-    }
-}
-
-// Prints that, or the fault of the log.
-fn print_found<W: Write>(
-    alloc: Global,
-    options: &CheckOptions<'_>,
-    attest: &[u8],
+    quote: AskedQuote<'_, '_>,
     list: &AllowIndex<'_>,
     found: &LookedUp,
-    out: &mut W,
-) -> Result<Status, ToolFault>
-    requires { options.now.secure_boot ≡ false }
-    ensures ok { IfOk result (λ status. (allow bytes : List ℕ)
+) -> Result<Answer, AllocError>
+    requires { quote.options.now.secure_boot ≡ false }
+    ensures { IfOk result (λ a. (allow bytes : List ℕ)
         → AreAllOf allow list.now
         → IsLookedUp list.now found.now bytes
-        → (text : List ℕ)
-        × ChecksBeside options.now
-        (record { attest = attest.now; allow = Some allow }) bytes status text
-        × Appends (W.contents out.old) (W.contents out.new) text) }
-    ensures err { FailsByMemoryOrWrite result }
+        → ChecksBeside quote.entry.options.now
+        (record { attest = quote.entry.attest.now; allow = Some allow })
+        bytes a.status (string_bytes a.text)) }
 {
+    let form = quote.options.form;
     match found.registers() {
         Ok(registers) => {
-            let unknown = found.found.as_slice();
-            answer_to_quoted(alloc, options, attest, list, registers, unknown)?.print(out)
+            let found = found.found.as_slice();
+            answer_beside(alloc, quote, registers, &AllowTold { list, found, form })
         }
-        Err(fault) => tell_fault(alloc, options.form, &fault, out),
+        Err(fault) => log_fault_answer(alloc, form, &fault),
     }
 }
 
 /// The same of the log that a source gives, which isn't held, unless the list has a fault.
-pub(crate) fn print_looked_up<L: Source, W: Write>(
+pub(crate) fn answer_to_source<L: Source>(
     alloc: Global,
     log: &mut L,
-    options: &CheckOptions<'_>,
-    attest: &[u8],
+    quote: AskedQuote<'_, '_>,
     allow: &[u8],
-    out: &mut W,
-) -> Result<Status, ToolFault>
-    requires { options.now.secure_boot ≡ false }
+) -> Result<Answer, ToolFault>
+    requires { quote.options.now.secure_boot ≡ false }
     ensures failures { CountsRead (L.failed log.old) (L.failed log.new) result }
     ensures stop { IsErrOf result Read → IsWhereItFailed (L.stopped log.new) }
     ensures most { ReadsNoMore most_read (L.coming log.old) (L.coming log.new) }
-    ensures ok { IfOk result (λ status. (bytes : List ℕ) × (text : List ℕ)
+    ensures ok { IfOk result (λ a. (bytes : List ℕ)
         × ReadsUpTo most_read (L.coming log.old) (L.coming log.new) bytes
-        × ChecksBeside options.now
-        (record { attest = attest.now; allow = Some allow.now }) bytes status text
-        × Appends (W.contents out.old) (W.contents out.new) text) }
+        × ChecksBeside quote.entry.options.now
+        (record { attest = quote.entry.attest.now; allow = Some allow.now })
+        bytes a.status (string_bytes a.text)) }
     ensures short { IsErrOf result InputTooLong → ⊥ }
 {
     match digests_of(alloc, allow)? {
         Some(digests) => {
             let mut list = AllowIndex::new(alloc, digests.as_slice())?;
             let found = look_up(alloc, log, MOST_READ, &mut list)?;
-            print_found(alloc, options, attest, &list, &found, out)
+            Ok(answer_to_found(alloc, quote, &list, &found)?)
         }
         None => {
             let bytes = read_up_to(alloc, log, MOST_READ)?;
-            print_beside(alloc, options, attest, Some(allow), bytes.as_slice(), out)
+            Ok(answer_to_log(alloc, quote, Some(allow), bytes.as_slice())?)
         }
     }
 }

@@ -12,3 +12,10 @@ pub struct Asked<'a, 'o> {
     /// A list of allowed digests. It says nothing without that quote.
     pub allow: Option<&'a [u8]>,
 }
+
+/// A quote as it was signed, and what is expected of it.
+#[derive(Clone, Copy)]
+pub(crate) struct AskedQuote<'a, 'o> {
+    pub(crate) options: &'a CheckOptions<'o>,
+    pub(crate) attest: &'a [u8],
+}

@@ -3,16 +3,20 @@
 ghost use Rattle.std.specs.Prelude.{◌≡◌, ◌++◌, IfOk, OnOk, option_map, string_bytes};
 ghost use Rattle.tpm_output.specs.declared.status.Status.TheVariants.{Refused};
 ghost use Rattle.tpm_output.specs.Numbers.{hexadecimal};
+ghost use Rattle.tpm_events.specs.LogFaults.{fault_text};
+ghost use Rattle.tpm_check.specs.CheckAttest.{Says, ended};
 ghost use Rattle.tpm_check.specs.CheckJson.{hint_line, is_ok, marks_of_refusal, ok_text, refusal_text};
-ghost use Rattle.tpm_check.specs.Compare.{fault_told, status_if};
+ghost use Rattle.tpm_check.specs.Compare.{fault_told, printed, refused, status_if};
 
+use crate::said::{Members, push_said, tell_members};
 use std::alloc::{AllocError, Global};
+use tpm_events::faults::fault_text;
+use tpm_log::LogFault;
 use tpm_output::answer::Answer;
 use tpm_output::form::Form;
-use tpm_output::mark::{Mark, Value};
+use tpm_output::mark::Value;
 use tpm_output::status::Status;
-use tpm_output::tell::{Marks, Tell, push_either, push_object};
-use tpm_output::tell_says;
+use tpm_output::tell::{Tell, push_object};
 use tpm_output::teller::{Teller, Told, tell_word};
 use tpm_output::text::{Pushed, push_refusal};
 use tpm_wire::Refusal;
@@ -39,7 +43,7 @@ impl<'a, 'b> Tell for ToldRefusal<'a, 'b> {
     ghost marks = { λ r. marks_of_refusal r.digits.now r.at (option_map (λ h. h.now) r.hint) };
 
     fn tell<T: Teller>(&self, out: &mut T) -> Told {
-        tell_says!(out; Word "refused" self.digits, Number "at" u64::from(self.at))?;
+        tell_members!(out; Word "refused" self.digits, Number "at" u64::from(self.at))?;
         match self.hint {
             Some(hint) => tell_word(out, "hint", hint),
             None => Ok(()),
@@ -95,12 +99,7 @@ pub(crate) fn push_fault(text: &mut String, form: Form, fault: &str) -> Pushed
         ≡ string_bytes text.old ++ fault_told form fault.now) }
 {
     let fault = Value::Word(fault);
-    push_either(
-        text,
-        form,
-        &[Mark::Says(None, fault)],
-        &[Mark::Says(Some("fault"), fault)],
-    )
+    push_said(text, form, &[fault], &[("fault", fault)])
 }
 
 /// The answer that tells this fault, with the status `Refused`. AllocError where a request for memory is refused.
@@ -139,8 +138,30 @@ pub(crate) fn push_ok(text: &mut String, form: Form, status: Status) -> Pushed
     match form {
         Form::Lines => Ok(()),
         Form::Json => {
-            let ok = Mark::Says(Some("ok"), Value::Truth(is_ok(status)));
-            push_object(text, &Marks(&[ok]))
+            let ok = ("ok", Value::Truth(is_ok(status)));
+            push_object(text, &Members(&[ok]))
         }
     }
+}
+
+/// An answer, with its status behind it where that is told. AllocError where a request for memory is refused.
+pub(crate) fn ended(form: Form, answer: Answer) -> Result<Answer, AllocError>
+    ensures { IfOk result (λ a. Says (ended form (printed answer.status (string_bytes answer.text)))
+        a.status (string_bytes a.text)) }
+{
+    let Answer { status, mut text } = answer;
+    push_ok(&mut text, form, status)?;
+    Ok(Answer { status, text })
+}
+
+/// The fault of a log, and the status where it is told. AllocError where a request for memory is refused.
+pub(crate) fn log_fault_answer(
+    alloc: Global,
+    form: Form,
+    fault: &LogFault,
+) -> Result<Answer, AllocError>
+    ensures { IfOk result (λ a. Says (ended form (refused (fault_text form fault.now))) a.status
+        (string_bytes a.text)) }
+{
+    ended(form, Answer::refused(fault_text(alloc, form, fault)?))
 }

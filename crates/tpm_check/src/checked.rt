@@ -21,9 +21,9 @@ ghost use Rattle.tpm_log.specs.Replays.{ReplaysFrom, ReadsFrom};
 ghost use Rattle.tpm_log.specs.declared.fault.LogFault.{LogFault as LogFaultValue};
 ghost use Rattle.tpm_wire.specs.Sources.{IsWhereItFailed};
 
-use crate::asked::Asked;
+use crate::asked::{Asked, AskedQuote};
 use crate::beside::Beside;
-use crate::check_json::push_ok;
+use crate::check_json::{ended, log_fault_answer};
 use crate::compared::check_list;
 use crate::judged::answer_to_attest;
 use crate::quoted::answer_to_quote;
@@ -31,10 +31,9 @@ use crate::registers_told::ToldRegisters;
 use crate::renderings::rendered;
 use std::alloc::{AllocError, Global};
 use std::io::Write;
-use tpm_events::faults::print_fault;
 use tpm_log::{LogFault, LogFaultKind, replay_from};
 use tpm_options::CheckOptions;
-use tpm_output::answer::{Answer, write};
+use tpm_output::answer::Answer;
 use tpm_output::fault::ToolFault;
 use tpm_output::form::Form;
 use tpm_output::status::Status;
@@ -53,8 +52,7 @@ pub(crate) fn tell_fault<W: Write>(
         (fault_text form fault.now ++ ok_text form Refused)) }
     ensures err { FailsByMemoryOrWrite result }
 {
-    let status = print_fault(alloc, form, fault, out)?;
-    print_ok(alloc, form, status, out)
+    log_fault_answer(alloc, form, fault)?.print(out)
 }
 
 // Prints the status, where it is told.
@@ -68,10 +66,8 @@ fn print_ok<W: Write>(
         × Appends (W.contents out.old) (W.contents out.new) (ok_text form status)) }
     ensures err { FailsByMemoryOrWrite result }
 {
-    let mut text = String::new(alloc);
-    push_ok(&mut text, form, status)?;
-    write(out, &text)?;
-    Ok(status)
+    let text = String::new(alloc);
+    ended(form, Answer { status, text })?.print(out)
 }
 
 // What a quote as it was signed says of registers, where there is one.
@@ -83,8 +79,9 @@ fn answer_to_signed(
     ensures { IfOk result (λ a. ChecksSigned (told found.now) (asked_by asked.now)
         (printed a.status (string_bytes a.text))) }
 {
+    let options = asked.options;
     match asked.attest {
-        Some(bytes) => answer_to_attest(alloc, found, asked.options, bytes),
+        Some(attest) => answer_to_attest(alloc, found, AskedQuote { options, attest }),
         None => Ok(Answer::done(String::new(alloc))),
     }
 }

@@ -9,6 +9,7 @@ ghost use Rattle.tpm_check.specs.CheckAttest.{marks_of_lacks, marks_of_selected,
 ghost use Rattle.tpm_check.specs.Compare.{printed};
 ghost use Rattle.tpm_check.specs.inner.Told.{told};
 
+use crate::asked::AskedQuote;
 use crate::beside::Beside;
 use crate::check_json::{refusal_answer, status_if};
 use crate::quoted::{is_quote, tell_quote, verdict_word};
@@ -228,16 +229,19 @@ fn hint(bytes: &[u8]) -> Option<&'static str>
     }
 }
 
-/// What is printed of the quote that these bytes spell as it was signed, or of their fault, beside registers.
+/// What is printed of a quote, or of the fault of its bytes, beside registers.
 pub(crate) fn answer_to_attest(
     alloc: Global,
     found: &Beside<'_>,
-    options: &CheckOptions<'_>,
-    bytes: &[u8],
+    quote: AskedQuote<'_, '_>,
 ) -> Result<Answer, AllocError>
-    ensures { IfOk result (λ a. ChecksAttest (told found.now) options.now bytes.now
-        (printed a.status (string_bytes a.text))) }
+    ensures { IfOk result (λ a. ChecksAttest (told found.now) quote.entry.options.now
+        quote.entry.attest.now (printed a.status (string_bytes a.text))) }
 {
+    let AskedQuote {
+        options,
+        attest: bytes,
+    } = quote;
     match decode_attest(bytes) {
         Ok(attest) => {
             let form = found.form;

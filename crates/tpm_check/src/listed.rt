@@ -1,16 +1,17 @@
 //! The subcommand `check` of the registers in the banks that a log's header lists.
 
-ghost use Rattle.std.specs.Prelude.{◌≡◌, ◌++◌, ℕ, List, IfOk, string_bytes};
+ghost use Rattle.std.specs.Prelude.{ℕ, List, IfOk, string_bytes};
 ghost use Rattle.std.specs.Io.KnownBytes.{Appends};
 ghost use Rattle.tpm_pcr.specs.Registers.{value_in};
 ghost use Rattle.tpm_output.specs.declared.status.Status.TheVariants.{Done};
 ghost use Rattle.tpm_output.specs.Faults.{FailsByMemoryOrWrite};
-ghost use Rattle.tpm_check.specs.CheckJson.{ok_text, registers_told};
+ghost use Rattle.tpm_check.specs.CheckAttest.{Says, ended};
+ghost use Rattle.tpm_check.specs.CheckJson.{registers_told};
+ghost use Rattle.tpm_check.specs.Compare.{printed};
 ghost use Rattle.tpm_check.specs.Listed.{TellsListed};
 ghost use Rattle.tpm_check.specs.SecureBootLines.{listed_banks};
 
-use crate::check_json::push_ok;
-use crate::checked::tell_fault;
+use crate::check_json::{ended, log_fault_answer};
 use crate::registers_told::ToldRegisters;
 use crate::renderings::rendered;
 use crate::told_secure_boot::listed_banks;
@@ -30,9 +31,9 @@ fn answer_to_log(
     found: &Registers,
     log: &Log<'_>,
 ) -> Result<Answer, AllocError>
-    ensures { IfOk result (λ a. (a.status ≡ Done)
-        × (string_bytes a.text ≡ registers_told form (value_in found.now.banks)
-        (listed_banks log.now.hashes) ++ ok_text form Done)) }
+    ensures { IfOk result (λ a. Says (ended form (printed Done
+        (registers_told form (value_in found.now.banks) (listed_banks log.now.hashes))))
+        a.status (string_bytes a.text)) }
 {
     let banks = listed_banks(log);
     let registers = ToldRegisters {
@@ -40,9 +41,17 @@ fn answer_to_log(
         banks: banks.as_slice(),
         form,
     };
-    let mut text = rendered(alloc, form, Status::Done, &registers)?.text;
-    push_ok(&mut text, form, Status::Done)?;
-    Ok(Answer::done(text))
+    ended(form, rendered(alloc, form, Status::Done, &registers)?)
+}
+
+// What is printed of the log that these bytes are, or its fault.
+fn answer(alloc: Global, form: Form, bytes: &[u8]) -> Result<Answer, AllocError>
+    ensures { IfOk result (λ a. TellsListed form bytes.now a.status (string_bytes a.text)) }
+{
+    match Log::replayed(bytes) {
+        Ok((log, found)) => answer_to_log(alloc, form, &found, &log),
+        Err(fault) => log_fault_answer(alloc, form, &fault),
+    }
 }
 
 /// Prints the registers that a log gives, as `check_log` does, but those of the banks alone that its header lists: 24
@@ -62,8 +71,5 @@ pub fn check_listed<W: Write>(
         × Appends (W.contents out.old) (W.contents out.new) text) }
     ensures err { FailsByMemoryOrWrite result }
 {
-    match Log::replayed(bytes) {
-        Ok((log, found)) => answer_to_log(alloc, form, &found, &log)?.print(out),
-        Err(fault) => tell_fault(alloc, form, &fault, out),
-    }
+    answer(alloc, form, bytes)?.print(out)
 }

@@ -16,43 +16,36 @@ ghost use Rattle.tpm_check.specs.Compare.{Verdict, beside, printed};
 ghost use Rattle.tpm_check.specs.Asked.{asked_by};
 ghost use Rattle.tpm_check.specs.VouchedEvents.{ListsBeside, ListsVouched};
 
-use crate::asked::Asked;
+use crate::asked::{Asked, AskedQuote};
+use crate::behind::selected;
 use crate::beside::Beside;
-use crate::check_json::push_ok;
+use crate::check_json::ended;
 use crate::checked::tell_fault;
 use crate::judged::answer_to_attest;
-use crate::quoted_boot::selected;
 use std::alloc::{AllocError, Global};
 use std::io::Write;
 use tpm_events::listed_events::MOST_READ;
 use tpm_events::{list_events, print_events};
 use tpm_log::Log;
-use tpm_options::{CheckOptions, Listing};
+use tpm_options::Listing;
 use tpm_output::answer::Answer;
 use tpm_output::fault::ToolFault;
 use tpm_output::reads::read_up_to;
 use tpm_output::status::Status;
 use tpm_wire::Source;
 
-// What is printed of a quote beside registers, and its status behind it where that is told.
+// What is printed of a quote beside registers.
 fn answer_to_end(
     alloc: Global,
     found: &Beside<'_>,
-    options: &CheckOptions<'_>,
-    attest: &[u8],
+    quote: AskedQuote<'_, '_>,
 ) -> Result<Answer, AllocError>
     ensures { IfOk result (λ a. (said : Verdict)
         × ChecksAttest (beside found.now.form (value_in found.now.registers.now.banks))
-        options.now attest.now said
+        quote.entry.options.now quote.entry.attest.now said
         × Says (ended found.now.form said) a.status (string_bytes a.text)) }
 {
-    let said = answer_to_attest(alloc, found, options, attest)?;
-    let mut text = said.text;
-    push_ok(&mut text, found.form, said.status)?;
-    Ok(Answer {
-        status: said.status,
-        text,
-    })
+    ended(found.form, answer_to_attest(alloc, found, quote)?)
 }
 
 // Prints what is said of a quote, and behind one that is the one asked for the records of a log, with what it vouches
@@ -87,15 +80,14 @@ fn print_behind<W: Write>(
 fn print_vouched<W: Write>(
     alloc: Global,
     listing: Listing<'_>,
-    options: &CheckOptions<'_>,
-    attest: &[u8],
+    quote: AskedQuote<'_, '_>,
     bytes: &[u8],
     out: &mut W,
 ) -> Result<Status, ToolFault>
     ensures ok { IfOk result (λ status. (text : List ℕ) × ListsVouched (record {
       listing = listing.entry;
-      attest = attest.now;
-      options = options.now;
+      attest = quote.entry.attest.now;
+      options = quote.entry.options.now;
     }) bytes.now status text
         × Appends (W.contents out.old) (W.contents out.new) text) }
     ensures err { FailsByMemoryOrWrite result }
@@ -104,8 +96,8 @@ fn print_vouched<W: Write>(
     match Log::replayed(bytes) {
         Ok((log, registers)) => {
             let registers = &registers;
-            let said = answer_to_end(alloc, &Beside { registers, form }, options, attest)?;
-            print_behind(alloc, listing, &said, attest, &log, out)
+            let said = answer_to_end(alloc, &Beside { registers, form }, quote)?;
+            print_behind(alloc, listing, &said, quote.attest, &log, out)
         }
         Err(fault) => tell_fault(alloc, form, &fault, out),
     }
@@ -151,5 +143,9 @@ pub fn list_vouched<L: Source, W: Write>(
         return list_events(alloc, log, listing, out);
     };
     let bytes = read_up_to(alloc, log, MOST_READ)?;
-    print_vouched(alloc, listing, asked.options, attest, bytes.as_slice(), out)
+    let quote = AskedQuote {
+        options: asked.options,
+        attest,
+    };
+    print_vouched(alloc, listing, quote, bytes.as_slice(), out)
 }

@@ -10,7 +10,7 @@ returns-in_ok-said-in-Ok-clause-ok g c =
     let is = c.in-Ok.ensures.found in
     IfOk-weaker c.print_behind.result _ _ (λ status told. (
       told.0,
-      lists (record { listing = c.args.listing; attest = c.args.attest.now; options = c.args.options.now }) c.args.bytes.now c.in-Ok.log c.in-Ok.registers
+      lists (record { listing = c.args.listing; attest = c.args.quote.attest.now; options = c.args.quote.options.now }) c.args.bytes.now c.in-Ok.log c.in-Ok.registers
           said.0 answer.status status (string_bytes answer.text) told.0 is.0 is.1 said.1 said.2 told.1,
       told.2,
     )) c.print_behind.ensures.ok

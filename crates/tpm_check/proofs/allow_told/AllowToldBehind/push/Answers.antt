@@ -1,7 +1,7 @@
 use Rattle.std.proofs.Common.{◌≡◌, ◌∙◌, true, List, ap, length, refl, sym}
 use Rattle.std.specs.Prelude.{◌==◌}
 use Rattle.tpm_vouched.specs.declared.allowed.AllowedDigest.{AllowedDigest}
-use Rattle.tpm_check.proofs.allow_told.AllowTold.push.Goals as goal
+use Rattle.tpm_check.proofs.allow_told.AllowToldBehind.push.Goals as goal
 
 pub returns-then-is_empty : goal.returns-then-is_empty
 returns-then-is_empty c =
