@@ -20,7 +20,7 @@ use crate::check_json::{log_fault_answer, push_fault};
 use crate::compared::MOST_BYTES;
 use crate::quoted_boot::quoted_banks;
 use crate::register_text::push_not_a_register;
-use crate::told_secure_boot::push_log;
+use crate::told_secure_boot::AskedLog;
 use std::alloc::{AllocError, Global};
 use tpm_events::listed_events::MOST_READ;
 use tpm_lists::{AllowIndex, AllowedLine, LookedUp, look_up, read_allowed, unknown_in};
@@ -96,7 +96,8 @@ impl<'a, 'b, 'c> VouchedLog<'a, 'b, 'c> {
             return Ok(Status::Done);
         }
         let banks = quoted_banks(self.quoted.as_slice());
-        push_log(alloc, text, self.options, self.log, banks.as_slice())
+        let VouchedLog { options, log, .. } = *self;
+        AskedLog { options, log }.push(alloc, text, banks.as_slice())
     }
 
     // Adds what is said of it, beside a list where there is one.

@@ -1,4 +1,4 @@
-use Rattle.std.proofs.Common.{◌≡◌, ◌∙◌, ◌<◌, ◌^◌, List, length, subst, sym}
+use Rattle.std.proofs.Common.{◌∙◌, ◌<◌, ◌^◌, List, length, subst, sym}
 use Rattle.tpm_vouched.specs.declared.allowed.AllowedDigest.{AllowedDigest}
 use Rattle.tpm_check.specs.inner.AllowedBoot.{AreAllOf}
 use Rattle.tpm_check.proofs.allowed_boot.answer_to_source.Goals as goal
