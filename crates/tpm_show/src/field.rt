@@ -1,14 +1,14 @@
 //! A field of a buffer by its name and its type, and its parts.
 
-ghost use Rattle.std.specs.Prelude.{◌≡◌, ◌++◌, ◌≤◌, List, OnOk, flat_map, length};
+ghost use Rattle.std.specs.Prelude.{◌≡◌, ◌++◌, ◌≤◌, List, OnOk, flat_map};
 ghost use Rattle.tpm_wire.specs.Spelling.{spelling};
 ghost use Rattle.tpm_show.specs.FieldText.{structure_told, value_told};
 ghost use Rattle.tpm_show.specs.Pieces.{Piece};
+ghost use Rattle.tpm_show.specs.inner.Pieces.{field_as};
 
 use crate::field_text::{begin_structure, end_structure, tell_value};
 use crate::teller::Teller;
 use arrayvec::ArrayVec;
-use std::marker::Model;
 use tpm_output::text::Pushed;
 use tpm_wire::Wire;
 
@@ -27,26 +27,18 @@ pub(crate) trait HasParts: Wire {
 }
 
 /// A field: how far in its line stands, its name and its type.
-#[derive(Drop)]
+#[derive(Clone, Copy)]
 pub(crate) struct Field(
     pub(crate) &'static str,
     pub(crate) &'static str,
     pub(crate) &'static str,
 );
 
-impl Model for Field {
-    ghost use Rattle.tpm_commands.specs.Row.{named};
-    ghost use Rattle.tpm_show.specs.inner.Pieces.{IndentedField};
-
-    ghost Value = { IndentedField };
-
-    ghost view = { λ f. record { indent = f.0.now; named = named f.1.now f.2.now } };
-}
-
 fn spelled<T: Wire>(value: &T) -> ArrayVec<u8, FIELD_BYTES>
-    requires { length (spelling T.layout value.now) ≤ 512 }
+    requires { T.most ≤ 512 }
     ensures { result.items ≡ spelling T.layout value.now }
 {
+    prove!(value.len() <= FIELD_BYTES);
     let mut bytes = ArrayVec::new();
     value.put(&mut bytes);
     bytes
@@ -54,20 +46,20 @@ fn spelled<T: Wire>(value: &T) -> ArrayVec<u8, FIELD_BYTES>
 
 impl Field {
     /// Tells it of this value.
-    pub(crate) fn tell<T: Teller, V: Wire>(self, teller: &mut T, value: &V) -> Pushed
-        requires { length (spelling V.layout value.now) ≤ 512 }
+    pub(crate) fn tell<T: Teller, V: Wire>(&self, teller: &mut T, value: &V) -> Pushed
+        requires { V.most ≤ 512 }
         ensures { OnOk result (T.told teller.new ≡ T.told teller.old ++ flat_map T.marks
-            (value_told self.indent self.named (spelling V.layout value.now))) }
+            (value_told self.now.0.now (field_as self.now) (spelling V.layout value.now))) }
     {
         tell_value(teller, self, spelled(value).as_slice())
     }
 
     /// Tells it of this value, with its parts.
     #[tactic(auto, using(crate::proofs::Pieces::pieces))]
-    pub(crate) fn tell_structure<T: Teller, V: HasParts>(self, teller: &mut T, value: &V) -> Pushed
-        requires { length (spelling V.layout value.now) ≤ 512 }
+    pub(crate) fn tell_structure<T: Teller, V: HasParts>(&self, teller: &mut T, value: &V) -> Pushed
+        requires { V.most ≤ 512 }
         ensures { OnOk result (T.told teller.new ≡ T.told teller.old
-            ++ flat_map T.marks (structure_told self.indent self.named
+            ++ flat_map T.marks (structure_told self.now.0.now (field_as self.now)
             (spelling V.layout value.now) (V.told_parts value.now))) }
     {
         begin_structure(teller, self, spelled(value).as_slice())?;

@@ -4,11 +4,12 @@ ghost use Rattle.std.specs.Prelude.{◌≡◌, ◌++◌, OnOk, codes, flat_map};
 ghost use Rattle.tpm_show.specs.FieldNames.{value_name};
 ghost use Rattle.tpm_show.specs.FieldText.{field_begins, number_told, structure_begins, structure_ends, value_told};
 ghost use Rattle.tpm_show.specs.Pieces.{word_told};
+ghost use Rattle.tpm_show.specs.inner.Pieces.{field_as};
 ghost use Rattle.tpm_show.specs.declared.piece.How.TheVariants.{Behind};
 
 use crate::field::Field;
 use crate::field_names::{ValueName, value_name};
-use crate::piece::{LINE_END, Piece, Shape, in_line, says};
+use crate::piece::{FIELDS, LINE_END, Piece, Shape, in_line, says};
 use crate::teller::{Teller, tell_pieces};
 use tpm_output::text::Pushed;
 
@@ -24,11 +25,11 @@ fn tell_value_name<T: Teller>(teller: &mut T, kind: &str, bytes: &[u8]) -> Pushe
 }
 
 #[tactic(auto, using(crate::proofs::Pieces::pieces), unfolding(crate::specs::FieldText::field_begins))]
-fn begin_field<T: Teller>(teller: &mut T, field: Field, bytes: &[u8]) -> Pushed
+fn begin_field<T: Teller>(teller: &mut T, field: &Field, bytes: &[u8]) -> Pushed
     ensures { OnOk result (T.told teller.new ≡ T.told teller.old
-        ++ flat_map T.marks (field_begins field.indent field.named bytes.now)) }
+        ++ flat_map T.marks (field_begins field.now.0.now (field_as field.now) bytes.now)) }
 {
-    let Field(indent, name, kind) = field;
+    let Field(indent, name, kind) = *field;
     tell_pieces!(teller; Piece::Opens(None, Shape::Object), in_line!(Alone Word indent),
         says!(Alone "name" Word name), says!(Behind "type" Word kind),
         says!(Behind "value" Bytes bytes))?;
@@ -38,9 +39,9 @@ fn begin_field<T: Teller>(teller: &mut T, field: Field, bytes: &[u8]) -> Pushed
 
 /// Tells a field of these bytes, of which no parts are told.
 #[tactic(auto, using(crate::proofs::Pieces::pieces), unfolding(crate::specs::FieldText::value_told))]
-pub(crate) fn tell_value<T: Teller>(teller: &mut T, field: Field, bytes: &[u8]) -> Pushed
+pub(crate) fn tell_value<T: Teller>(teller: &mut T, field: &Field, bytes: &[u8]) -> Pushed
     ensures { OnOk result (T.told teller.new ≡ T.told teller.old
-        ++ flat_map T.marks (value_told field.indent field.named bytes.now)) }
+        ++ flat_map T.marks (value_told field.now.0.now (field_as field.now) bytes.now)) }
 {
     begin_field(teller, field, bytes)?;
     teller.tell(&Piece::Closes(Shape::Object))
@@ -48,12 +49,12 @@ pub(crate) fn tell_value<T: Teller>(teller: &mut T, field: Field, bytes: &[u8]) 
 
 /// Tells a field of these bytes, of which the parts follow.
 #[tactic(auto, using(crate::proofs::Pieces::pieces), unfolding(crate::specs::FieldText::structure_begins))]
-pub(crate) fn begin_structure<T: Teller>(teller: &mut T, field: Field, bytes: &[u8]) -> Pushed
+pub(crate) fn begin_structure<T: Teller>(teller: &mut T, field: &Field, bytes: &[u8]) -> Pushed
     ensures { OnOk result (T.told teller.new ≡ T.told teller.old
-        ++ flat_map T.marks (structure_begins field.indent field.named bytes.now)) }
+        ++ flat_map T.marks (structure_begins field.now.0.now (field_as field.now) bytes.now)) }
 {
     begin_field(teller, field, bytes)?;
-    teller.tell(&Piece::Opens(Some("fields"), Shape::List))
+    teller.tell(&FIELDS)
 }
 
 /// Tells that no more parts of it follow.

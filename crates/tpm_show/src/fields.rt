@@ -20,6 +20,64 @@ use tpm_output::text::Pushed;
 use tpm_types::EncryptedSalt;
 use tpm_wire::{Wire, put_bytes};
 
+// ---- the names and the types of parameters
+
+// of commands
+static EVENT_DATA: Field = Field("  ", "eventData", "TPM2B_EVENT");
+
+static NONCE_CALLER: Field = Field("  ", "nonceCaller", "TPM2B_NONCE");
+
+static ENCRYPTED_SALT: Field = Field("  ", "encryptedSalt", "TPM2B_ENCRYPTED_SECRET");
+
+static SESSION_TYPE: Field = Field("  ", "sessionType", "TPM_SE");
+
+static SYMMETRIC: Field = Field("  ", "symmetric", "TPMT_SYM_DEF");
+
+static AUTH_HASH: Field = Field("  ", "authHash", "TPMI_ALG_HASH");
+
+static AUTH: Field = Field("  ", "auth", "TPM2B_AUTH");
+
+static PUBLIC_INFO: Field = Field("  ", "publicInfo", "TPM2B_NV_PUBLIC");
+
+static STARTUP_TYPE: Field = Field("  ", "startupType", "TPM_SU");
+
+static SIZE: Field = Field("  ", "size", "UINT16");
+
+static OFFSET: Field = Field("  ", "offset", "UINT16");
+
+static FLUSH_HANDLE: Field = Field("  ", "flushHandle", "TPMI_DH_CONTEXT");
+
+static CODE: Field = Field("  ", "code", "TPM_CC");
+
+static HASH_LIST: Field = Field("  ", "pHashList", "TPML_DIGEST");
+
+static SELECTION_IN: Field = Field("  ", "pcrSelectionIn", "TPML_PCR_SELECTION");
+
+static PCR_DIGEST: Field = Field("  ", "pcrDigest", "TPM2B_DIGEST");
+
+static PCRS: Field = Field("  ", "pcrs", "TPML_PCR_SELECTION");
+
+static DIGESTS: Field = Field("  ", "digests", "TPML_DIGEST_VALUES");
+
+// of replies
+static DATA: Field = Field("  ", "data", "TPM2B_MAX_NV_BUFFER");
+
+static NV_PUBLIC: Field = Field("  ", "nvPublic", "TPM2B_NV_PUBLIC");
+
+static NV_NAME: Field = Field("  ", "nvName", "TPM2B_NAME");
+
+static NONCE_TPM: Field = Field("  ", "nonceTPM", "TPM2B_NONCE");
+
+static UPDATE_COUNTER: Field = Field("  ", "pcrUpdateCounter", "UINT32");
+
+static SELECTION_OUT: Field = Field("  ", "pcrSelectionOut", "TPML_PCR_SELECTION");
+
+static PCR_VALUES: Field = Field("  ", "pcrValues", "TPML_DIGEST");
+
+static POLICY_DIGEST: Field = Field("  ", "policyDigest", "TPM2B_DIGEST");
+
+// ---- commands
+
 // How many bytes an event has at most with its size.
 const EVENT_BYTES: usize = 1026;
 
@@ -41,11 +99,7 @@ fn tell_event<T: Teller>(teller: &mut T, event: &Event<'_>) -> Pushed
         (named (codes "eventData") (codes "TPM2B_EVENT"))
         (spelling (sized_bytes event_bytes) event.now))) }
 {
-    tell_value(
-        teller,
-        Field("  ", "eventData", "TPM2B_EVENT"),
-        spelled_event(event).as_slice(),
-    )
+    tell_value(teller, &EVENT_DATA, spelled_event(event).as_slice())
 }
 
 #[tactic(auto, unfolding(tpm_types::specs::Constants::session_type, tpm_types::specs::Tpm2b::encrypted_salt, tpm_commands::specs::Commands::Session::start_auth_session))]
@@ -59,12 +113,11 @@ fn tell_start_fields<T: Teller>(teller: &mut T, start: &StartAuth) -> Pushed
         symmetric,
         auth_hash,
     } = &start.params;
-    prove!(nonce_caller.len() + symmetric.len() + auth_hash.len() <= 512);
-    Field("  ", "nonceCaller", "TPM2B_NONCE").tell(teller, nonce_caller)?;
-    Field("  ", "encryptedSalt", "TPM2B_ENCRYPTED_SECRET").tell(teller, &EncryptedSalt::Empty)?;
-    Field("  ", "sessionType", "TPM_SE").tell(teller, session_type)?;
-    Field("  ", "symmetric", "TPMT_SYM_DEF").tell_structure(teller, symmetric)?;
-    Field("  ", "authHash", "TPMI_ALG_HASH").tell(teller, auth_hash)
+    NONCE_CALLER.tell(teller, nonce_caller)?;
+    ENCRYPTED_SALT.tell(teller, &EncryptedSalt::Empty)?;
+    SESSION_TYPE.tell(teller, session_type)?;
+    SYMMETRIC.tell_structure(teller, symmetric)?;
+    AUTH_HASH.tell(teller, auth_hash)
 }
 
 /// Tells each parameter of a command: its name, its type and its bytes (Part 3, the table of the command), and what
@@ -77,48 +130,30 @@ pub(crate) fn tell_command_fields<T: Teller>(teller: &mut T, body: &CommandBody<
     match body {
         CommandBody::NvDefineSpace(params) => {
             let NvDefineSpace { auth, public } = params;
-            prove!(auth.len() + public.len() <= 512);
-            Field("  ", "auth", "TPM2B_AUTH").tell(teller, auth)?;
-            Field("  ", "publicInfo", "TPM2B_NV_PUBLIC").tell_structure(teller, public)
+            AUTH.tell(teller, auth)?;
+            PUBLIC_INFO.tell_structure(teller, public)
         }
         CommandBody::PcrEvent { event, .. } => tell_event(teller, event),
-        CommandBody::Startup(startup_type) => {
-            Field("  ", "startupType", "TPM_SU").tell(teller, startup_type)
-        }
+        CommandBody::Startup(startup_type) => STARTUP_TYPE.tell(teller, startup_type),
         CommandBody::NvRead { params, .. } => {
             let NvRead { size, offset } = params;
-            Field("  ", "size", "UINT16").tell(teller, size)?;
-            Field("  ", "offset", "UINT16").tell(teller, offset)
+            SIZE.tell(teller, size)?;
+            OFFSET.tell(teller, offset)
         }
-        CommandBody::FlushContext(session) => {
-            prove!(session.len() <= 512);
-            Field("  ", "flushHandle", "TPMI_DH_CONTEXT").tell(teller, session)
-        }
-        CommandBody::PolicyCommandCode { code, .. } => {
-            Field("  ", "code", "TPM_CC").tell(teller, code)
-        }
-        CommandBody::PolicyOr { digests, .. } => {
-            prove!(digests.len() <= 512);
-            Field("  ", "pHashList", "TPML_DIGEST").tell_structure(teller, digests)
-        }
+        CommandBody::FlushContext(session) => FLUSH_HANDLE.tell(teller, session),
+        CommandBody::PolicyCommandCode { code, .. } => CODE.tell(teller, code),
+        CommandBody::PolicyOr { digests, .. } => HASH_LIST.tell_structure(teller, digests),
         CommandBody::StartAuthSession(start) => tell_start_fields(teller, start),
-        CommandBody::PcrRead(selections) => {
-            prove!(selections.len() <= 512);
-            Field("  ", "pcrSelectionIn", "TPML_PCR_SELECTION").tell_structure(teller, selections)
-        }
+        CommandBody::PcrRead(selections) => SELECTION_IN.tell_structure(teller, selections),
         CommandBody::PolicyPcr { params, .. } => {
             let PolicyPcr {
                 pcr_digest,
                 selections,
             } = params;
-            prove!(pcr_digest.len() + selections.len() <= 512);
-            Field("  ", "pcrDigest", "TPM2B_DIGEST").tell(teller, pcr_digest)?;
-            Field("  ", "pcrs", "TPML_PCR_SELECTION").tell_structure(teller, selections)
+            PCR_DIGEST.tell(teller, pcr_digest)?;
+            PCRS.tell_structure(teller, selections)
         }
-        CommandBody::PcrExtend { digests, .. } => {
-            prove!(digests.len() <= 512);
-            Field("  ", "digests", "TPML_DIGEST_VALUES").tell_structure(teller, digests)
-        }
+        CommandBody::PcrExtend { digests, .. } => DIGESTS.tell_structure(teller, digests),
         CommandBody::NvUndefineSpace { .. }
         | CommandBody::NvIncrement { .. }
         | CommandBody::PcrReset { .. }
@@ -129,6 +164,8 @@ pub(crate) fn tell_command_fields<T: Teller>(teller: &mut T, body: &CommandBody<
     }
 }
 
+// ---- replies
+
 /// Tells each parameter of a reply: its name, its type and its bytes (Part 3, the response table of the command), and
 /// what stands in it.
 #[tactic(auto, unfolding(tpm_commands::specs::Commands::Pcr::pcr_event_reply, tpm_commands::specs::Commands::Nv::nv_read_reply, tpm_commands::specs::Commands::Nv::nv_read_public_reply, tpm_commands::specs::Commands::Session::start_auth_session_reply, tpm_commands::specs::Commands::Pcr::pcr_read_reply, tpm_commands::specs::Commands::Policy::policy_get_digest_reply))]
@@ -137,39 +174,23 @@ pub(crate) fn tell_reply_fields<T: Teller>(teller: &mut T, body: &ReplyBody) -> 
         (T.told teller.new ≡ T.told teller.old ++ flat_map T.marks (reply_fields body.now)) }
 {
     match body {
-        ReplyBody::PcrEvent(digests) => {
-            prove!(digests.len() <= 512);
-            Field("  ", "digests", "TPML_DIGEST_VALUES").tell_structure(teller, digests)
-        }
-        ReplyBody::NvRead(data) => {
-            prove!(data.len() <= 512);
-            Field("  ", "data", "TPM2B_MAX_NV_BUFFER").tell(teller, data)
-        }
+        ReplyBody::PcrEvent(digests) => DIGESTS.tell_structure(teller, digests),
+        ReplyBody::NvRead(data) => DATA.tell(teller, data),
         ReplyBody::NvReadPublic { public, name } => {
-            prove!(public.len() + name.len() <= 512);
-            Field("  ", "nvPublic", "TPM2B_NV_PUBLIC").tell_structure(teller, public)?;
-            Field("  ", "nvName", "TPM2B_NAME").tell(teller, name)
+            NV_PUBLIC.tell_structure(teller, public)?;
+            NV_NAME.tell(teller, name)
         }
-        ReplyBody::StartAuthSession(reply) => {
-            prove!(reply.nonce_tpm.len() <= 512);
-            Field("  ", "nonceTPM", "TPM2B_NONCE").tell(teller, &reply.nonce_tpm)
-        }
+        ReplyBody::StartAuthSession(reply) => NONCE_TPM.tell(teller, &reply.nonce_tpm),
         ReplyBody::PcrRead {
             update_counter,
             selections,
             digests,
         } => {
-            prove!(selections.len() + digests.len() <= 512);
-            Field("  ", "pcrUpdateCounter", "UINT32").tell(teller, update_counter)?;
-            Field("  ", "pcrSelectionOut", "TPML_PCR_SELECTION").tell_structure(
-                teller, selections,
-            )?;
-            Field("  ", "pcrValues", "TPML_DIGEST").tell_structure(teller, digests)
+            UPDATE_COUNTER.tell(teller, update_counter)?;
+            SELECTION_OUT.tell_structure(teller, selections)?;
+            PCR_VALUES.tell_structure(teller, digests)
         }
-        ReplyBody::PolicyGetDigest(digest) => {
-            prove!(digest.len() <= 512);
-            Field("  ", "policyDigest", "TPM2B_DIGEST").tell(teller, digest)
-        }
+        ReplyBody::PolicyGetDigest(digest) => POLICY_DIGEST.tell(teller, digest),
         ReplyBody::NvUndefineSpace
         | ReplyBody::NvDefineSpace
         | ReplyBody::NvIncrement

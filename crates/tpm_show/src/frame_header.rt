@@ -150,6 +150,8 @@ fn tell_command<T: Teller>(teller: &mut T, code: u32) -> Pushed
     }
 }
 
+static COMMAND: Piece<'static> = in_line!(Alone Word "command");
+
 /// Tells the header of a command.
 #[tactic(auto, using(crate::proofs::Pieces::pieces), unfolding(crate::specs::Headers::command_head))]
 pub(crate) fn tell_command_head<T: Teller>(teller: &mut T, header: &FrameHeader) -> Pushed
@@ -157,7 +159,7 @@ pub(crate) fn tell_command_head<T: Teller>(teller: &mut T, header: &FrameHeader)
         ≡ T.told teller.old ++ flat_map T.marks (command_head header.now)) }
 {
     let code = header.code;
-    teller.tell(&in_line!(Alone Word "command"))?;
+    teller.tell(&COMMAND)?;
     tell_command(teller, code)?;
     tell_size_and_tag(teller, header)?;
     tell_pieces!(teller; says!(Nowhere "command_code" Bytes &code.to_be_bytes()), LINE_END)
@@ -173,6 +175,8 @@ fn tell_answered<T: Teller>(teller: &mut T, command: Option<u32>) -> Pushed
     }
 }
 
+static REPLY: Piece<'static> = in_line!(Alone Word "reply");
+
 /// Tells the header of a reply to the command of this code.
 #[tactic(auto, using(crate::proofs::Pieces::pieces), unfolding(crate::specs::Headers::reply_head))]
 pub(crate) fn tell_reply_head<T: Teller>(
@@ -184,7 +188,7 @@ pub(crate) fn tell_reply_head<T: Teller>(
         ≡ T.told teller.old ++ flat_map T.marks (reply_head command header.now)) }
 {
     let code = header.code;
-    teller.tell(&in_line!(Alone Word "reply"))?;
+    teller.tell(&REPLY)?;
     tell_answered(teller, command)?;
     tell_size_and_tag(teller, header)?;
     teller.tell(&says!(Under "code" Code code))?;

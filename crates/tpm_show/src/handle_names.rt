@@ -3,7 +3,7 @@
 ghost use Rattle.std.specs.Prelude.{◌≡◌, ◌++◌, OnOk, flat_map, map, option_map};
 ghost use Rattle.tpm_show.specs.HandleNames.{handle_name, handle_named, handle_told, handles_from, handles_told};
 
-use crate::piece::{How, LINE_END, Piece, Shape, Value, in_line};
+use crate::piece::{How, LINE_END, LIST_END, Piece, Shape, Value, in_line};
 use crate::teller::{Teller, tell_asked, tell_pieces};
 use tpm_output::named::{Row, look_up};
 use tpm_output::names;
@@ -115,16 +115,18 @@ fn tell_names<T: Teller>(teller: &mut T, handles: &[u32]) -> Pushed
     Ok(())
 }
 
+static HANDLES: Piece<'static> = Piece::Opens(Some("handles"), Shape::List);
+
 /// Tells handles, and their names in a list of their own.
 #[tactic(auto, using(crate::proofs::Pieces::pieces), unfolding(crate::specs::HandleNames::handles_told))]
 pub(crate) fn tell_handles<T: Teller>(teller: &mut T, handles: &[u32]) -> Pushed
     ensures { OnOk result
         (T.told teller.new ≡ T.told teller.old ++ flat_map T.marks (handles_told handles.now)) }
 {
-    teller.tell(&Piece::Opens(Some("handles"), Shape::List))?;
+    teller.tell(&HANDLES)?;
     tell_each(teller, handles)?;
     tell_pieces!(teller; Piece::Closes(Shape::List),
         Piece::Opens(Some("handle_names"), Shape::List))?;
     tell_names(teller, handles)?;
-    teller.tell(&Piece::Closes(Shape::List))
+    teller.tell(&LIST_END)
 }

@@ -96,18 +96,27 @@ impl HasParts for NvAttrs {
 
 // ---- TPMS_NV_PUBLIC (Part 2, 13.5)
 
+static NV_INDEX: Field = Field("    ", "nvIndex", "TPMI_RH_NV_INDEX");
+
+static NAME_ALG: Field = Field("    ", "nameAlg", "TPMI_ALG_HASH");
+
+static NV_ATTRIBUTES: Field = Field("    ", "attributes", "TPMA_NV");
+
+static AUTH_POLICY: Field = Field("    ", "authPolicy", "TPM2B_DIGEST");
+
+static DATA_SIZE: Field = Field("    ", "dataSize", "UINT16");
+
 /// The members, which are those of a TPM2B_NV_PUBLIC.
 impl HasParts for NvPublic {
     ghost told_parts = { public_parts };
 
     #[tactic(auto, using(crate::proofs::Pieces::pieces), unfolding(tpm_types::specs::Tpms::nv_public_area))]
     fn tell_parts<T: Teller>(&self, teller: &mut T) -> Pushed {
-        prove!(self.index.len() + self.alg.len() + self.attrs.len() + self.policy.len() <= 512);
-        Field("    ", "nvIndex", "TPMI_RH_NV_INDEX").tell(teller, &self.index)?;
-        Field("    ", "nameAlg", "TPMI_ALG_HASH").tell(teller, &self.alg)?;
-        Field("    ", "attributes", "TPMA_NV").tell_structure(teller, &self.attrs)?;
-        Field("    ", "authPolicy", "TPM2B_DIGEST").tell(teller, &self.policy)?;
-        Field("    ", "dataSize", "UINT16").tell(teller, &self.data_size)
+        NV_INDEX.tell(teller, &self.index)?;
+        NAME_ALG.tell(teller, &self.alg)?;
+        NV_ATTRIBUTES.tell_structure(teller, &self.attrs)?;
+        AUTH_POLICY.tell(teller, &self.policy)?;
+        DATA_SIZE.tell(teller, &self.data_size)
     }
 }
 
@@ -140,6 +149,14 @@ impl<E: Wire + Default + Duplicate + Drop + Entry, const LEAST: usize, const MOS
 
 // ---- TPML_PCR_SELECTION (Part 2, 10.9.7)
 
+static SELECTIONS: Field = Field("    ", "pcrSelections", "TPMS_PCR_SELECTION");
+
+static HASH: Field = Field("      ", "hash", "TPMI_ALG_HASH");
+
+static SIZE_OF_SELECT: Field = Field("      ", "sizeofSelect", "UINT8");
+
+static SELECT: Field = Field("      ", "pcrSelect", "BYTE");
+
 // Tells each register that is selected.
 #[tactic(auto, unfolding(crate::specs::Parts::selected_registers))]
 fn tell_registers<T: Teller>(teller: &mut T, selection: &Selection) -> Pushed
@@ -161,11 +178,7 @@ fn tell_select<T: Teller>(teller: &mut T, selection: &Selection) -> Pushed
         (named (codes "pcrSelect") (codes "BYTE"))
         selection.now.select (register_parts selection.now.select))) }
 {
-    begin_structure(
-        teller,
-        Field("      ", "pcrSelect", "BYTE"),
-        &selection.select,
-    )?;
+    begin_structure(teller, &SELECT, &selection.select)?;
     tell_registers(teller, selection)?;
     end_structure(teller)
 }
@@ -176,9 +189,8 @@ impl HasParts for Selection {
 
     #[tactic(auto, unfolding(tpm_types::specs::Tpms::selection))]
     fn tell_parts<T: Teller>(&self, teller: &mut T) -> Pushed {
-        prove!(self.hash.len() <= 512);
-        Field("      ", "hash", "TPMI_ALG_HASH").tell(teller, &self.hash)?;
-        Field("      ", "sizeofSelect", "UINT8").tell(teller, &(SELECT_BYTES as u8))?;
+        HASH.tell(teller, &self.hash)?;
+        SIZE_OF_SELECT.tell(teller, &(SELECT_BYTES as u8))?;
         tell_select(teller, self)
     }
 }
@@ -187,23 +199,29 @@ impl Entry for Selection {
     ghost told_entry = { selection_entry };
 
     fn tell_entry<T: Teller>(&self, teller: &mut T) -> Pushed {
-        prove!(self.len() <= 512);
-        Field("    ", "pcrSelections", "TPMS_PCR_SELECTION").tell_structure(teller, self)
+        SELECTIONS.tell_structure(teller, self)
     }
 }
 
 // ---- TPML_DIGEST (Part 2, 10.9.5)
 
+static DIGESTS: Field = Field("    ", "digests", "TPM2B_DIGEST");
+
 impl Entry for Digest {
     ghost told_entry = { digest_entry };
 
     fn tell_entry<T: Teller>(&self, teller: &mut T) -> Pushed {
-        prove!(self.len() <= 512);
-        Field("    ", "digests", "TPM2B_DIGEST").tell(teller, self)
+        DIGESTS.tell(teller, self)
     }
 }
 
 // ---- TPML_DIGEST_VALUES (Part 2, 10.9.6)
+
+static HASHED_DIGESTS: Field = Field("    ", "digests", "TPMT_HA");
+
+static HASH_ALG: Field = Field("      ", "hashAlg", "TPMI_ALG_HASH");
+
+static HASH_DIGEST: Field = Field("      ", "digest", "TPMU_HA");
 
 /// The members.
 impl HasParts for HashedDigest {
@@ -212,9 +230,8 @@ impl HasParts for HashedDigest {
     #[tactic(auto, using(crate::proofs::Pieces::pieces), unfolding(tpm_types::specs::Tpmt::digest_value))]
     fn tell_parts<T: Teller>(&self, teller: &mut T) -> Pushed {
         let hash = self.hash();
-        prove!(hash.len() <= 512);
-        Field("      ", "hashAlg", "TPMI_ALG_HASH").tell(teller, &hash)?;
-        tell_value(teller, Field("      ", "digest", "TPMU_HA"), self.digest())
+        HASH_ALG.tell(teller, &hash)?;
+        tell_value(teller, &HASH_DIGEST, self.digest())
     }
 }
 
@@ -222,12 +239,17 @@ impl Entry for HashedDigest {
     ghost told_entry = { digest_value_entry };
 
     fn tell_entry<T: Teller>(&self, teller: &mut T) -> Pushed {
-        prove!(self.len() <= 512);
-        Field("    ", "digests", "TPMT_HA").tell_structure(teller, self)
+        HASHED_DIGESTS.tell_structure(teller, self)
     }
 }
 
 // ---- TPMT_SYM_DEF (Part 2, 11.1.6)
+
+static ALGORITHM: Field = Field("    ", "algorithm", "TPMI_ALG_SYM");
+
+static KEY_BITS: Field = Field("    ", "keyBits", "TPMU_SYM_KEY_BITS");
+
+static MODE: Field = Field("    ", "mode", "TPMU_SYM_MODE");
 
 // TPM_ALG_ID (Part 2, 6.3)
 const AES: u16 = 0x0006;
@@ -243,7 +265,7 @@ fn tell_algorithm<T: Teller>(teller: &mut T, n: u16) -> Pushed
         (value_told (codes "    ") (named (codes "algorithm") (codes "TPMI_ALG_SYM"))
         (bytes_high_first 2 n))) }
 {
-    Field("    ", "algorithm", "TPMI_ALG_SYM").tell(teller, &n)
+    ALGORITHM.tell(teller, &n)
 }
 
 /// The members, as far as the algorithm has them.
@@ -255,15 +277,13 @@ impl HasParts for SymDef {
         match self {
             SymDef::Null => tell_algorithm(teller, NULL),
             SymDef::Aes(bits) => {
-                prove!(bits.len() <= 512);
                 tell_algorithm(teller, AES)?;
-                Field("    ", "keyBits", "TPMU_SYM_KEY_BITS").tell(teller, bits)?;
-                Field("    ", "mode", "TPMU_SYM_MODE").tell(teller, &CFB)
+                KEY_BITS.tell(teller, bits)?;
+                MODE.tell(teller, &CFB)
             }
             SymDef::Xor(alg) => {
-                prove!(alg.len() <= 512);
                 tell_algorithm(teller, XOR)?;
-                Field("    ", "keyBits", "TPMU_SYM_KEY_BITS").tell(teller, alg)
+                KEY_BITS.tell(teller, alg)
             }
         }
     }

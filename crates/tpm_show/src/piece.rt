@@ -55,7 +55,13 @@ pub(crate) enum Piece<'a> {
 }
 
 /// The end of a line.
-pub(crate) const LINE_END: Piece<'static> = Piece::InLine(How::Alone, Value::Word("\n"));
+pub(crate) static LINE_END: Piece<'static> = Piece::InLine(How::Alone, Value::Word("\n"));
+
+/// The end of a list.
+pub(crate) static LIST_END: Piece<'static> = Piece::Closes(Shape::List);
+
+/// The begin of the list of a structure's fields, or of a buffer's.
+pub(crate) static FIELDS: Piece<'static> = Piece::Opens(Some("fields"), Shape::List);
 
 /// A thing under a name, as `says!(Under "size" Number 12)`.
 macro_rules! says {

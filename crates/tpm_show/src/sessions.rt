@@ -11,7 +11,7 @@ ghost use Rattle.tpm_show.specs.declared.piece.How.TheVariants.{Asked};
 
 use crate::bits::is_set;
 use crate::handle_names::handle_name;
-use crate::piece::{How, LINE_END, Piece, Shape, Value, in_line, says};
+use crate::piece::{How, LINE_END, LIST_END, Piece, Shape, Value, in_line, says};
 use crate::teller::{Teller, tell_pieces, tell_word};
 use std::marker::Model;
 use tpm_buffer::{AuthRef, ReplyAreas};
@@ -178,6 +178,8 @@ fn tell_attribute_names<T: Teller>(teller: &mut T, attributes: u8) -> Pushed
     tell_set_names(teller, &ATTRIBUTES, attributes)
 }
 
+static ATTRIBUTE_NAMES: Piece<'static> = Piece::Opens(Some("attribute_names"), Shape::List);
+
 // Tells attributes, and the names of those that are set.
 #[tactic(auto, using(crate::proofs::Pieces::pieces), unfolding(crate::specs::Sessions::attributes_told))]
 fn tell_attributes<T: Teller>(teller: &mut T, attributes: u8) -> Pushed
@@ -186,9 +188,9 @@ fn tell_attributes<T: Teller>(teller: &mut T, attributes: u8) -> Pushed
 {
     let bytes = [attributes];
     teller.tell(&says!(Under "attributes" Bytes &bytes))?;
-    teller.tell(&Piece::Opens(Some("attribute_names"), Shape::List))?;
+    teller.tell(&ATTRIBUTE_NAMES)?;
     tell_attribute_names(teller, attributes)?;
-    teller.tell(&Piece::Closes(Shape::List))
+    teller.tell(&LIST_END)
 }
 
 #[tactic(auto, unfolding(crate::specs::Sessions::session_begins))]
@@ -236,13 +238,15 @@ fn tell_each<A: HasSessions, T: Teller>(teller: &mut T, areas: &A) -> Pushed
     Ok(())
 }
 
+static SESSIONS: Piece<'static> = Piece::Opens(Some("sessions"), Shape::List);
+
 /// Tells the sessions.
 #[tactic(auto, using(crate::proofs::Pieces::pieces))]
 pub(crate) fn tell_sessions<A: HasSessions, T: Teller>(teller: &mut T, areas: &A) -> Pushed
     ensures { OnOk result (T.told teller.new ≡ T.told teller.old
         ++ flat_map T.marks (sessions_told (A.sessions areas.now))) }
 {
-    teller.tell(&Piece::Opens(Some("sessions"), Shape::List))?;
+    teller.tell(&SESSIONS)?;
     tell_each(teller, areas)?;
-    teller.tell(&Piece::Closes(Shape::List))
+    teller.tell(&LIST_END)
 }

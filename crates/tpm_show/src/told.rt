@@ -17,7 +17,7 @@ use crate::fields::{tell_command_fields, tell_reply_fields};
 use crate::frame_header::tell_code_in_line;
 use crate::handle_names::tell_handles;
 use crate::lines::Lines;
-use crate::piece::{LINE_END, Piece, Shape, in_line};
+use crate::piece::{FIELDS, LINE_END, LIST_END, in_line};
 use crate::refused::{tell_buffer_head, tell_refusal, tell_refused};
 use crate::sessions::tell_sessions;
 use crate::teller::{Teller, tell_pieces};
@@ -88,9 +88,9 @@ fn tell_named_parameters<T: Teller>(teller: &mut T, fields: bool, body: &Command
     if !fields {
         return Ok(());
     }
-    teller.tell(&Piece::Opens(Some("fields"), Shape::List))?;
+    teller.tell(&FIELDS)?;
     tell_command_fields(teller, body)?;
-    teller.tell(&Piece::Closes(Shape::List))
+    teller.tell(&LIST_END)
 }
 
 /// Tells what stands behind the header of a command.
@@ -166,9 +166,9 @@ fn tell_reply_parameters<T: Teller>(teller: &mut T, fields: bool, body: &ReplyBo
     if !fields {
         return Ok(());
     }
-    teller.tell(&Piece::Opens(Some("fields"), Shape::List))?;
+    teller.tell(&FIELDS)?;
     tell_reply_fields(teller, body)?;
-    teller.tell(&Piece::Closes(Shape::List))
+    teller.tell(&LIST_END)
 }
 
 // Tells the handle, where there is one.

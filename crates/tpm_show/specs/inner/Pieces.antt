@@ -1,6 +1,7 @@
 -- Pieces and fields, as the program has them.
-use Rattle.std.specs.Prelude.{ℕ, List, option_map}
-use Rattle.tpm_commands.specs.Row.{Field}
+use Rattle.std.specs.Prelude.{option_map}
+use Rattle.tpm_commands.specs.Row.{Field, named}
+use Rattle.tpm_show.specs.declared.field.Field.{Field as FieldInCode}
 use Rattle.tpm_show.specs.declared.piece.Piece.{Piece as PieceInCode}
 use Rattle.tpm_show.specs.declared.piece.Piece.TheVariants as piece
 use Rattle.tpm_show.specs.declared.piece.Value.{Value as ValueInCode}
@@ -20,7 +21,6 @@ as_piece (piece.InLine h v) = InLine h (as_value v)
 as_piece (piece.Opens name s) = Opens (option_map (λ n. n.now) name) s
 as_piece (piece.Closes s) = Closes s
 
--- a field, and how far in its line stands
-pub record IndentedField : Type 0 where
-  pub indent : List ℕ
-  pub named : Field
+-- the name and the type of a field
+abbrev pub field_as : FieldInCode → Field
+field_as f = named f.1.now f.2.now
