@@ -6,6 +6,7 @@ ghost use Rattle.tpm_wire.specs.Structures.{sized_bytes};
 ghost use Rattle.tpm_commands.specs.Events.{event_bytes};
 ghost use Rattle.tpm_commands.specs.Row.{named};
 ghost use Rattle.tpm_commands.specs.declared.command.CommandBody.TheVariants.{StartAuthSession};
+ghost use Rattle.tpm_commands.specs.declared.command.ReplyBody.TheVariants.{NvReadPublic, PcrRead};
 ghost use Rattle.tpm_show.specs.Fields.{command_fields, reply_fields};
 ghost use Rattle.tpm_show.specs.FieldText.{value_told};
 
@@ -17,7 +18,7 @@ use tpm_commands::{
     CommandBody, Event, NvDefineSpace, NvRead, PolicyPcr, ReplyBody, StartAuth, StartParams,
 };
 use tpm_output::text::Pushed;
-use tpm_types::EncryptedSalt;
+use tpm_types::{Digests, EncryptedSalt, Name, NvPublic, Selections};
 use tpm_wire::{Wire, put_bytes};
 
 // ---- the names and the types of parameters
@@ -166,9 +167,33 @@ pub(crate) fn tell_command_fields<T: Teller>(teller: &mut T, body: &CommandBody<
 
 // ---- replies
 
+#[tactic(auto, unfolding(tpm_commands::specs::Commands::Nv::nv_read_public_reply))]
+fn tell_public_fields<T: Teller>(teller: &mut T, public: &NvPublic, name: &Name) -> Pushed
+    ensures { OnOk result (T.told teller.new ≡ T.told teller.old
+        ++ flat_map T.marks (reply_fields (NvReadPublic public.now name.now))) }
+{
+    NV_PUBLIC.tell_structure(teller, public)?;
+    NV_NAME.tell(teller, name)
+}
+
+#[tactic(auto, unfolding(tpm_commands::specs::Commands::Pcr::pcr_read_reply))]
+fn tell_register_fields<T: Teller>(
+    teller: &mut T,
+    update_counter: u32,
+    selections: &Selections,
+    digests: &Digests,
+) -> Pushed
+    ensures { OnOk result (T.told teller.new ≡ T.told teller.old
+        ++ flat_map T.marks (reply_fields (PcrRead update_counter selections.now digests.now))) }
+{
+    UPDATE_COUNTER.tell(teller, &update_counter)?;
+    SELECTION_OUT.tell_structure(teller, selections)?;
+    PCR_VALUES.tell_structure(teller, digests)
+}
+
 /// Tells each parameter of a reply: its name, its type and its bytes (Part 3, the response table of the command), and
 /// what stands in it.
-#[tactic(auto, unfolding(tpm_commands::specs::Commands::Pcr::pcr_event_reply, tpm_commands::specs::Commands::Nv::nv_read_reply, tpm_commands::specs::Commands::Nv::nv_read_public_reply, tpm_commands::specs::Commands::Session::start_auth_session_reply, tpm_commands::specs::Commands::Pcr::pcr_read_reply, tpm_commands::specs::Commands::Policy::policy_get_digest_reply))]
+#[tactic(auto, unfolding(tpm_commands::specs::Commands::Pcr::pcr_event_reply, tpm_commands::specs::Commands::Nv::nv_read_reply, tpm_commands::specs::Commands::Session::start_auth_session_reply, tpm_commands::specs::Commands::Policy::policy_get_digest_reply))]
 pub(crate) fn tell_reply_fields<T: Teller>(teller: &mut T, body: &ReplyBody) -> Pushed
     ensures { OnOk result
         (T.told teller.new ≡ T.told teller.old ++ flat_map T.marks (reply_fields body.now)) }
@@ -176,20 +201,13 @@ pub(crate) fn tell_reply_fields<T: Teller>(teller: &mut T, body: &ReplyBody) -> 
     match body {
         ReplyBody::PcrEvent(digests) => DIGESTS.tell_structure(teller, digests),
         ReplyBody::NvRead(data) => DATA.tell(teller, data),
-        ReplyBody::NvReadPublic { public, name } => {
-            NV_PUBLIC.tell_structure(teller, public)?;
-            NV_NAME.tell(teller, name)
-        }
+        ReplyBody::NvReadPublic { public, name } => tell_public_fields(teller, public, name),
         ReplyBody::StartAuthSession(reply) => NONCE_TPM.tell(teller, &reply.nonce_tpm),
         ReplyBody::PcrRead {
             update_counter,
             selections,
             digests,
-        } => {
-            UPDATE_COUNTER.tell(teller, update_counter)?;
-            SELECTION_OUT.tell_structure(teller, selections)?;
-            PCR_VALUES.tell_structure(teller, digests)
-        }
+        } => tell_register_fields(teller, *update_counter, selections, digests),
         ReplyBody::PolicyGetDigest(digest) => POLICY_DIGEST.tell(teller, digest),
         ReplyBody::NvUndefineSpace
         | ReplyBody::NvDefineSpace

@@ -1,6 +1,6 @@
 use Rattle.tpm_show.proofs.Pieces.{pieces}
-use Rattle.tpm_commands.specs.Commands.Pcr.{pcr_event_reply, pcr_read_reply}
-use Rattle.tpm_commands.specs.Commands.Nv.{nv_read_reply, nv_read_public_reply}
+use Rattle.tpm_commands.specs.Commands.Pcr.{pcr_event_reply}
+use Rattle.tpm_commands.specs.Commands.Nv.{nv_read_reply}
 use Rattle.tpm_commands.specs.Commands.Session.{start_auth_session_reply}
 use Rattle.tpm_commands.specs.Commands.Policy.{policy_get_digest_reply}
 use Rattle.tpm_show.proofs.fields.tell_reply_fields.Goals as goal
@@ -10,20 +10,6 @@ unfolding pcr_event_reply
 returns-in-PcrEvent g c =
     let joined = simp pieces at c.tell_structure.ensures in
     rw c.in-PcrEvent.is (simp pieces joined)
-
-pub returns-in_ok-tell_structure-in-NvReadPublic : goal.returns-in_ok-tell_structure-in-NvReadPublic
-unfolding nv_read_public_reply
-returns-in_ok-tell_structure-in-NvReadPublic g c =
-    let written = simp (c.in_ok-tell_structure-in-NvReadPublic.ensures) at c.tell-in-NvReadPublic.ensures in
-    let joined = simp pieces at written in
-    rw c.in-NvReadPublic.is (simp pieces joined)
-
-pub returns-in_ok-tell_structure-in-PcrRead : goal.returns-in_ok-tell_structure-in-PcrRead
-unfolding pcr_read_reply
-returns-in_ok-tell_structure-in-PcrRead g c =
-    let written = simp (c.in_ok-tell_structure-in-PcrRead.ensures, c.in_ok-tell-in-PcrRead.ensures) at c.tell_structure-in-PcrRead-2.ensures in
-    let joined = simp pieces at written in
-    rw c.in-PcrRead.is (simp pieces joined)
 
 pub returns-in-PolicyGetDigest : goal.returns-in-PolicyGetDigest
 unfolding policy_get_digest_reply

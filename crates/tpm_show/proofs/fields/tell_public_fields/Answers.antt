@@ -1,0 +1,10 @@
+use Rattle.tpm_show.proofs.Pieces.{pieces}
+use Rattle.tpm_commands.specs.Commands.Nv.{nv_read_public_reply}
+use Rattle.tpm_show.proofs.fields.tell_public_fields.Goals as goal
+
+pub returns : goal.returns
+unfolding nv_read_public_reply
+returns g c =
+    let written = simp (c.in_ok-tell_structure.ensures) at c.tell.ensures in
+    let joined = simp pieces at written in
+    simp pieces joined
