@@ -10,7 +10,7 @@ ghost use Rattle.tpm_show.specs.declared.piece.How.TheVariants.{Behind};
 use crate::field::Field;
 use crate::field_names::{ValueName, value_name};
 use crate::piece::{FIELDS, LINE_END, Piece, Shape, in_line, says};
-use crate::teller::{Teller, tell_pieces};
+use crate::teller::{Teller, tell_all, tell_pieces};
 use tpm_output::text::Pushed;
 
 fn tell_value_name<T: Teller>(teller: &mut T, kind: &str, bytes: &[u8]) -> Pushed
@@ -57,13 +57,18 @@ pub(crate) fn begin_structure<T: Teller>(teller: &mut T, field: &Field, bytes: &
     teller.tell(&FIELDS)
 }
 
+static STRUCTURE_ENDS: [Piece<'static>; 2] = [
+    Piece::Closes(Shape::List),
+    Piece::Closes(Shape::Object),
+];
+
 /// Tells that no more parts of it follow.
 #[tactic(auto, unfolding(crate::specs::FieldText::structure_ends))]
 pub(crate) fn end_structure<T: Teller>(teller: &mut T) -> Pushed
     ensures { OnOk result
         (T.told teller.new ≡ T.told teller.old ++ flat_map T.marks structure_ends) }
 {
-    tell_pieces!(teller; Piece::Closes(Shape::List), Piece::Closes(Shape::Object))
+    tell_all(teller, &STRUCTURE_ENDS)
 }
 
 /// Tells a number by its name, so far in.

@@ -4,7 +4,7 @@ ghost use Rattle.std.specs.Prelude.{◌≡◌, ◌++◌, OnOk, flat_map, map, op
 ghost use Rattle.tpm_show.specs.HandleNames.{handle_name, handle_named, handle_told, handles_from, handles_told};
 
 use crate::piece::{How, LINE_END, LIST_END, Piece, Shape, Value, in_line};
-use crate::teller::{Teller, tell_asked, tell_pieces};
+use crate::teller::{Teller, tell_all, tell_asked, tell_pieces};
 use tpm_output::named::{Row, look_up};
 use tpm_output::names;
 use tpm_output::text::Pushed;
@@ -117,6 +117,11 @@ fn tell_names<T: Teller>(teller: &mut T, handles: &[u32]) -> Pushed
 
 static HANDLES: Piece<'static> = Piece::Opens(Some("handles"), Shape::List);
 
+static NAMES_BEHIND_HANDLES: [Piece<'static>; 2] = [
+    Piece::Closes(Shape::List),
+    Piece::Opens(Some("handle_names"), Shape::List),
+];
+
 /// Tells handles, and their names in a list of their own.
 #[tactic(auto, using(crate::proofs::Pieces::pieces), unfolding(crate::specs::HandleNames::handles_told))]
 pub(crate) fn tell_handles<T: Teller>(teller: &mut T, handles: &[u32]) -> Pushed
@@ -125,8 +130,7 @@ pub(crate) fn tell_handles<T: Teller>(teller: &mut T, handles: &[u32]) -> Pushed
 {
     teller.tell(&HANDLES)?;
     tell_each(teller, handles)?;
-    tell_pieces!(teller; Piece::Closes(Shape::List),
-        Piece::Opens(Some("handle_names"), Shape::List))?;
+    tell_all(teller, &NAMES_BEHIND_HANDLES)?;
     tell_names(teller, handles)?;
     teller.tell(&LIST_END)
 }
