@@ -21,9 +21,8 @@ use tpm_output::text::Pushed;
 use tpm_types::{Digests, EncryptedSalt, Name, NvPublic, Selections};
 use tpm_wire::{Wire, put_bytes};
 
-// ---- the names and the types of parameters
+// ---- the parameters of commands by their names and their types
 
-// of commands
 static EVENT_DATA: Field = Field("  ", "eventData", "TPM2B_EVENT");
 
 static NONCE_CALLER: Field = Field("  ", "nonceCaller", "TPM2B_NONCE");
@@ -60,7 +59,8 @@ static PCRS: Field = Field("  ", "pcrs", "TPML_PCR_SELECTION");
 
 static DIGESTS: Field = Field("  ", "digests", "TPML_DIGEST_VALUES");
 
-// of replies
+// ---- those of replies
+
 static DATA: Field = Field("  ", "data", "TPM2B_MAX_NV_BUFFER");
 
 static NV_PUBLIC: Field = Field("  ", "nvPublic", "TPM2B_NV_PUBLIC");
