@@ -1,7 +1,7 @@
 //! Marks as JSON.
 
-ghost use Rattle.std.specs.Prelude.{◌≡◌, ◌++◌, OnOk, codes, option_map};
-ghost use Rattle.tpm_output.specs.Json.{closing, comma, ends, mark_text, opening, separator, units_member};
+ghost use Rattle.std.specs.Prelude.{◌≡◌, ◌++◌, [], OnOk, Some, codes, option_map};
+ghost use Rattle.tpm_output.specs.Json.{closing, comma, ends, label, mark_text, opening, separator, units_member};
 ghost use Rattle.tpm_output.specs.Marks.{as_mark, as_value};
 ghost use Rattle.tpm_output.specs.Values.{in_json};
 
@@ -94,18 +94,56 @@ fn put_named<S: Sink>(sink: &mut S, value: &Value<'_>) -> Told
     put_between(sink, value)
 }
 
-fn put_units<S: Sink>(sink: &mut S, name: Option<&str>, value: &Value<'_>) -> Told
-    ensures { OnOk result (S.written sink.new ≡ S.written sink.old
-        ++ units_member (option_map (λ n. n.now) name.entry) (as_value value.now)) }
+// Puts the bytes of a text in UTF-16 that is none, behind it.
+fn put_units<S: Sink>(sink: &mut S, value: &Value<'_>) -> Told
+    ensures { OnOk result (S.written sink.new
+        ≡ S.written sink.old ++ units_member (Some []) (as_value value.now)) }
 {
-    if let (Some(_), Value::Utf16(text)) = (name, value) {
-        if !is_whole(text) {
-            put(sink, ",\"units\":\"")?;
-            put_bytes(sink, text)?;
-            return put(sink, "\"");
+    let Value::Utf16(text) = value else {
+        return Ok(());
+    };
+    if is_whole(text) {
+        return Ok(());
+    }
+    put(sink, ",\"units\":\"")?;
+    put_bytes(sink, text)?;
+    put(sink, "\"")
+}
+
+fn put_said<S: Sink>(sink: &mut S, behind: bool, name: Option<&str>, value: &Value<'_>) -> Told
+    ensures { OnOk result (S.written sink.new ≡ S.written sink.old ++ (comma behind
+        ++ (label (option_map (λ n. n.now) name.entry) ++ (in_json (as_value value.now)
+        ++ units_member (option_map (λ n. n.now) name.entry) (as_value value.now))))) }
+{
+    match name {
+        Some(name) => {
+            put_before_name(sink, behind)?;
+            put(sink, name)?;
+            put_named(sink, value)?;
+            put_units(sink, value)
+        }
+        None => {
+            put_comma(sink, behind)?;
+            put_in_json(sink, value)
         }
     }
-    Ok(())
+}
+
+fn put_opened<S: Sink>(sink: &mut S, behind: bool, name: Option<&str>, shape: Shape) -> Told
+    ensures { OnOk result (S.written sink.new ≡ S.written sink.old
+        ++ (comma behind ++ (label (option_map (λ n. n.now) name.entry) ++ opening shape))) }
+{
+    match name {
+        Some(name) => {
+            put_before_name(sink, behind)?;
+            put(sink, name)?;
+            put_named_opening(sink, shape)
+        }
+        None => {
+            put_comma(sink, behind)?;
+            put_opening(sink, shape)
+        }
+    }
 }
 
 pub(crate) fn put_mark<S: Sink>(sink: &mut S, behind: bool, mark: &Mark<'_>) -> Told
@@ -113,25 +151,8 @@ pub(crate) fn put_mark<S: Sink>(sink: &mut S, behind: bool, mark: &Mark<'_>) -> 
         ++ (separator behind (as_mark mark.now) ++ mark_text (as_mark mark.now))) }
 {
     match mark {
-        Mark::Says(Some(name), value) => {
-            put_before_name(sink, behind)?;
-            put(sink, name)?;
-            put_named(sink, value)?;
-            put_units(sink, Some(name), value)
-        }
-        Mark::Says(None, value) => {
-            put_comma(sink, behind)?;
-            put_in_json(sink, value)
-        }
-        Mark::Opens(Some(name), shape) => {
-            put_before_name(sink, behind)?;
-            put(sink, name)?;
-            put_named_opening(sink, *shape)
-        }
-        Mark::Opens(None, shape) => {
-            put_comma(sink, behind)?;
-            put_opening(sink, *shape)
-        }
+        Mark::Says(name, value) => put_said(sink, behind, *name, value),
+        Mark::Opens(name, shape) => put_opened(sink, behind, *name, *shape),
         Mark::Part(value) => put_between(sink, value),
         Mark::Closes(shape) => put_closing(sink, *shape),
     }

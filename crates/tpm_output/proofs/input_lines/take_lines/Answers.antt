@@ -37,6 +37,55 @@ returns-in_err-count-clause-answered g c = λ _.
       subst (λ (text : List ℕ). Appends (g.W.Write.contents c.args.out.now) (g.W.Write.contents c.loop-lines.out) text) (sym inv.holds.same) inv.added,
     )
 
+pub returns-in_err-count-clause-further : goal.returns-in_err-count-clause-further
+returns-in_err-count-clause-further g c = λ _.
+    let S = g.S.LineSink in
+    let inv = c.loop-lines.invariant in (
+      _,
+      reads_lines c.args.most (GoesOn S.limits S.takes c.args.sink) _ _ _ c.loop-lines.read 0 inv.bytes [] inv.bytes inv.holds.goes inv.consumed
+          inv.count (keeps_none _ _ c.in_err-count.ensures.bytes) refl
+          (omega arith) (omega (arith, inv.bound)) (sym (append-nil inv.bytes)),
+    )
+
+pub returns-then-read-most-clause-too_long : goal.returns-then-read-most-clause-too_long
+returns-then-read-most-clause-too_long g c = λ _.
+    let inv = c.loop-lines.invariant in
+    let count = c.in_ok-count.count in
+    let room = c.read.new.room in
+    let len : length room ≡ c.room_behind-room.result = search rules in
+    let counted : length (take count room) ≡ count = length-take-le count room c.in_ok-count.ensures.bound.0 in
+    let bound = c.in_ok-count.ensures.bound.0 in
+    record {
+      bytes = inv.bytes;
+      more = take count room;
+      read = consumes_both _ _ _ inv.bytes (take count room) inv.consumed c.in_ok-count.ensures.bytes.0;
+      all = omega (arith, len, bound, inv.count, inv.bound);
+      one = omega (arith, len, bound, counted, inv.bound);
+      goes = inv.holds.goes;
+    }
+
+pub returns-in_err-goes_on-clause-further : goal.returns-in_err-goes_on-clause-further
+returns-in_err-goes_on-clause-further g c = λ _.
+    let S = g.S.LineSink in
+    let inv = c.loop-lines.invariant in
+    let bytes = rw c.if-count-eq0.true at c.in_ok-count.ensures.bytes in (
+      _,
+      reads_lines c.args.most (GoesOn S.limits S.takes c.args.sink) _ _ _ c.loop-lines.read 0 inv.bytes [] inv.bytes inv.holds.goes inv.consumed
+          inv.count bytes.0 refl
+          (omega arith) (omega (arith, inv.bound)) (sym (append-nil inv.bytes)),
+    )
+
+pub returns-then-count-eq0-clause-further : goal.returns-then-count-eq0-clause-further
+returns-then-count-eq0-clause-further g c = λ _.
+    let S = g.S.LineSink in
+    let inv = c.loop-lines.invariant in
+    let bytes = rw c.if-count-eq0.true at c.in_ok-count.ensures.bytes in (
+      _,
+      reads_lines c.args.most (GoesOn S.limits S.takes c.args.sink) _ _ _ c.loop-lines.read 0 inv.bytes [] inv.bytes inv.holds.goes inv.consumed
+          inv.count bytes.0 refl
+          (omega arith) (omega (arith, inv.bound)) (sym (append-nil inv.bytes)),
+    )
+
 pub returns-then-count-eq0-clause-ok : goal.returns-then-count-eq0-clause-ok
 returns-then-count-eq0-clause-ok g c =
     let S = g.S.LineSink in
