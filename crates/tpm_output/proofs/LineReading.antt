@@ -1,6 +1,6 @@
 -- Inputs whose lines are given to a sink one after the other.
 use Rattle.std.proofs.Common.{◌≡◌, ◌⊎◌, ℕ, Bool, true, ◌+◌, ◌<◌, ◌≤◌, false, List, [], ◌∷◌, ◌++◌, length, take, Option, Some}
-use Rattle.std.proofs.Common.{None, refl, sym, ap, subst, ◌∙◌, inl, inr, arith, append_assoc, length-append, length-take-le}
+use Rattle.std.proofs.Common.{None, refl, sym, ap, subst, ◌∙◌, inl, inr, arith, append_assoc, length-append, length-take, length-take-le}
 use Rattle.std.proofs.lemmas.Bool.{cases_lt}
 use Rattle.std.proofs.lemmas.List.{append-nil, take_all, take-append-le}
 use Rattle.std.proofs.lemmas.List.Elements.{filter-append}
@@ -9,8 +9,9 @@ use Rattle.std.specs.Io.KnownBytes.{Consumes, Keeps}
 use Rattle.tpm_stream.proofs.Filled.{consumes_both}
 use Rattle.tpm_output.specs.declared.input_lines.LineReader.{LineReader}
 use Rattle.tpm_output.specs.InputLines.{lines_of, HasNoFeed, most_piece}
-use Rattle.tpm_output.specs.LineSinks.{GoesOn, Limits, ReadsLines, LineStep, LinesEnd, LinesStart, StopsAt, TakesAll, TakesFrom, buffered}
+use Rattle.tpm_output.specs.LineSinks.{GoesOn, Limits, ReadsLines, ReadsOneMore, LineStep, LinesEnd, LinesStart, StopsAt, TakesAll, TakesFrom, buffered}
 use Rattle.tpm_output.specs.LineSinks.{some_if}
+use Rattle.tpm_output.specs.inner.InputLines.{room_behind}
 use Rattle.tpm_output.specs.inner.LineReading.{EndsAll, EndsLine, Feeds, FeedsOn, Holds}
 use Rattle.tpm_output.specs.inner.LineReading.{has_some}
 use Rattle.tpm_output.proofs.InputLines.{no_feed-more, ended_line, ended_both, last_line, first_line, other_lines, longer_line}
@@ -412,3 +413,35 @@ reads_lines most Goes old mid new read count before bytes all goes consumed is m
   piece = rw counted at few;
   most_read = omega (arith, is, counted, le);
 }
+
+-- the same where no more bytes came
+pub reads_none : (most : ℕ) (Goes : List ℕ → Type 0) (old mid new : Option (List ℕ)) (read : ℕ) (before : List ℕ) → Goes before → Consumes old mid before
+    → read ≡ length before → Consumes mid new [] → read ≤ most → ReadsLines most Goes (record { old = old; new = new; bytes = before })
+reads_none most Goes old mid new read before goes consumed is more le =
+    reads_lines most Goes old mid new read 0 before [] before goes consumed is more refl (omega arith) (omega (arith, le)) (sym (append-nil before))
+
+-- a read into the room that is asked for
+module _ (most read n count : ℕ) (piece room : List ℕ) (is : n ≡ room_behind most read) (same : length room ≡ length (take n piece))
+    (le : count ≤ length room) where
+  few_read : count ≤ most_piece
+  few_read = omega (arith, is, same, le, length-take n piece)
+
+  -- what was read before, which is taken, and the bytes that it gave
+  pub reads_piece : (Goes : List ℕ → Type 0) (old mid new : Option (List ℕ)) (before all : List ℕ) → Goes before → Consumes old mid before
+      → read ≡ length before → Consumes mid new (take count room) → read + count ≤ most → all ≡ before ++ take count room
+      → ReadsLines most Goes (record { old = old; new = new; bytes = all })
+  reads_piece Goes old mid new before all goes consumed counted more within are =
+      reads_lines most Goes old mid new read count before (take count room) all goes consumed counted more (sym (length-take-le count room le)) few_read
+      within are
+
+  -- a byte more than there may be
+  pub reads_over : (Goes : List ℕ → Type 0) (old mid new : Option (List ℕ)) (before : List ℕ) → Goes before → Consumes old mid before
+      → read ≡ length before → Consumes mid new (take count room) → read ≤ most → most < read + count → ReadsOneMore most Goes old new
+  reads_over Goes old mid new before goes consumed counted more within over = record {
+    bytes = before;
+    more = take count room;
+    read = consumes_both old mid new before (take count room) consumed more;
+    all = omega (arith, is, same, le, length-take n piece, counted, within, over);
+    one = omega (arith, is, same, le, length-take n piece, within, over, length-take-le count room le);
+    goes = goes;
+  }

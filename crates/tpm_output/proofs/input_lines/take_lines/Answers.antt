@@ -6,7 +6,7 @@ use Rattle.tpm_stream.proofs.Filled.{consumes_both, consumes_none}
 use Rattle.tpm_output.specs.declared.input_lines.LineReader.{LineReader}
 use Rattle.tpm_output.specs.LineSinks.{GoesOn}
 use Rattle.tpm_output.proofs.Joins.{joins_appends}
-use Rattle.tpm_output.proofs.LineReading.{begins, keeps_none, reads_lines, stops_whatever}
+use Rattle.tpm_output.proofs.LineReading.{begins, keeps_none, reads_none, reads_over, reads_piece, stops_whatever}
 use Rattle.tpm_output.proofs.input_lines.take_lines.Goals as goal
 
 pub loop-lines-init : goal.loop-lines-init
@@ -42,27 +42,17 @@ returns-in_err-count-clause-further g c = λ _.
     let S = g.S.LineSink in
     let inv = c.loop-lines.invariant in (
       _,
-      reads_lines c.args.most (GoesOn S.limits S.takes c.args.sink) _ _ _ c.loop-lines.read 0 inv.bytes [] inv.bytes inv.holds.goes inv.consumed
-          inv.count (keeps_none _ _ c.in_err-count.ensures.bytes) refl
-          (omega arith) (omega (arith, inv.bound)) (sym (append-nil inv.bytes)),
+      reads_none c.args.most (GoesOn S.limits S.takes c.args.sink) _ _ _ c.loop-lines.read inv.bytes inv.holds.goes inv.consumed inv.count
+          (keeps_none _ _ c.in_err-count.ensures.bytes) inv.bound,
     )
 
 pub returns-then-read-most-clause-too_long : goal.returns-then-read-most-clause-too_long
 returns-then-read-most-clause-too_long g c = λ _.
+    let S = g.S.LineSink in
     let inv = c.loop-lines.invariant in
-    let count = c.in_ok-count.count in
-    let room = c.read.new.room in
-    let len : length room ≡ c.room_behind-room.result = search rules in
-    let counted : length (take count room) ≡ count = length-take-le count room c.in_ok-count.ensures.bound.0 in
-    let bound = c.in_ok-count.ensures.bound.0 in
-    record {
-      bytes = inv.bytes;
-      more = take count room;
-      read = consumes_both _ _ _ inv.bytes (take count room) inv.consumed c.in_ok-count.ensures.bytes.0;
-      all = omega (arith, len, bound, inv.count, inv.bound);
-      one = omega (arith, len, bound, counted, inv.bound);
-      goes = inv.holds.goes;
-    }
+    reads_over c.args.most c.loop-lines.read c.room_behind-room.result c.in_ok-count.count c.loop-lines.piece c.read.new.room
+    c.room_behind-room.ensures c.read.auto.room c.in_ok-count.ensures.bound.0 (GoesOn S.limits S.takes c.args.sink) _ _ _ inv.bytes
+    inv.holds.goes inv.consumed inv.count c.in_ok-count.ensures.bytes.0 inv.bound c.if-read-most.true
 
 pub returns-in_err-goes_on-clause-further : goal.returns-in_err-goes_on-clause-further
 returns-in_err-goes_on-clause-further g c = λ _.
@@ -70,9 +60,8 @@ returns-in_err-goes_on-clause-further g c = λ _.
     let inv = c.loop-lines.invariant in
     let bytes = rw c.if-count-eq0.true at c.in_ok-count.ensures.bytes in (
       _,
-      reads_lines c.args.most (GoesOn S.limits S.takes c.args.sink) _ _ _ c.loop-lines.read 0 inv.bytes [] inv.bytes inv.holds.goes inv.consumed
-          inv.count bytes.0 refl
-          (omega arith) (omega (arith, inv.bound)) (sym (append-nil inv.bytes)),
+      reads_none c.args.most (GoesOn S.limits S.takes c.args.sink) _ _ _ c.loop-lines.read inv.bytes inv.holds.goes inv.consumed inv.count
+          bytes.0 inv.bound,
     )
 
 pub returns-then-count-eq0-clause-further : goal.returns-then-count-eq0-clause-further
@@ -81,9 +70,8 @@ returns-then-count-eq0-clause-further g c = λ _.
     let inv = c.loop-lines.invariant in
     let bytes = rw c.if-count-eq0.true at c.in_ok-count.ensures.bytes in (
       _,
-      reads_lines c.args.most (GoesOn S.limits S.takes c.args.sink) _ _ _ c.loop-lines.read 0 inv.bytes [] inv.bytes inv.holds.goes inv.consumed
-          inv.count bytes.0 refl
-          (omega arith) (omega (arith, inv.bound)) (sym (append-nil inv.bytes)),
+      reads_none c.args.most (GoesOn S.limits S.takes c.args.sink) _ _ _ c.loop-lines.read inv.bytes inv.holds.goes inv.consumed inv.count
+          bytes.0 inv.bound,
     )
 
 pub returns-then-count-eq0-clause-ok : goal.returns-then-count-eq0-clause-ok
@@ -95,9 +83,8 @@ returns-then-count-eq0-clause-ok g c =
     let ended = c.in_ok-goes_on.ensures.ok in (
       inv.bytes,
       inv.text ++ ended.0,
-      reads_lines c.args.most (GoesOn S.limits S.takes c.args.sink) _ _ _ c.loop-lines.read 0 inv.bytes [] inv.bytes inv.holds.goes inv.consumed
-          inv.count bytes.0 refl
-          (omega arith) (omega (arith, inv.bound)) (sym (append-nil inv.bytes)),
+      reads_none c.args.most (GoesOn S.limits S.takes c.args.sink) _ _ _ c.loop-lines.read inv.bytes inv.holds.goes inv.consumed inv.count
+          bytes.0 inv.bound,
       (rw c.left.ensures (ended.2 c.args.sink inv.bytes inv.text inv.holds), inl (bytes.1 refl (omega (arith, len)))),
       joins_appends _ _ _ inv.text ended.0 inv.added ended.1,
     )
@@ -107,13 +94,11 @@ returns-in_err-print-clause-further g c = λ _.
     let S = g.S.LineSink in
     let inv = c.loop-lines.invariant in
     let count = c.in_ok-count.count in
-    let room = c.read.new.room in
-    let len : length room ≡ c.room_behind-room.result = search rules in (
+    let room = c.read.new.room in (
       _,
-      reads_lines c.args.most (GoesOn S.limits S.takes c.args.sink) _ _ _ c.loop-lines.read count inv.bytes (take count room) _ inv.holds.goes
-          inv.consumed inv.count
-          c.in_ok-count.ensures.bytes.0 (sym (length-take-le count room c.in_ok-count.ensures.bound.0)) (omega (arith, len, c.in_ok-count.ensures.bound.0))
-          (omega arith) refl,
+      reads_piece c.args.most c.loop-lines.read c.room_behind-room.result count c.loop-lines.piece room
+          c.room_behind-room.ensures c.read.auto.room c.in_ok-count.ensures.bound.0 (GoesOn S.limits S.takes c.args.sink) _ _ _ inv.bytes _
+          inv.holds.goes inv.consumed inv.count c.in_ok-count.ensures.bytes.0 c.if-read-most.false refl,
     )
 
 pub returns-then-not-branch-clause-further : goal.returns-then-not-branch-clause-further
@@ -121,13 +106,11 @@ returns-then-not-branch-clause-further g c = λ _.
     let S = g.S.LineSink in
     let inv = c.loop-lines.invariant in
     let count = c.in_ok-count.count in
-    let room = c.read.new.room in
-    let len : length room ≡ c.room_behind-room.result = search rules in (
+    let room = c.read.new.room in (
       _,
-      reads_lines c.args.most (GoesOn S.limits S.takes c.args.sink) _ _ _ c.loop-lines.read count inv.bytes (take count room) _ inv.holds.goes
-          inv.consumed inv.count
-          c.in_ok-count.ensures.bytes.0 (sym (length-take-le count room c.in_ok-count.ensures.bound.0)) (omega (arith, len, c.in_ok-count.ensures.bound.0))
-          (omega arith) refl,
+      reads_piece c.args.most c.loop-lines.read c.room_behind-room.result count c.loop-lines.piece room
+          c.room_behind-room.ensures c.read.auto.room c.in_ok-count.ensures.bound.0 (GoesOn S.limits S.takes c.args.sink) _ _ _ inv.bytes _
+          inv.holds.goes inv.consumed inv.count c.in_ok-count.ensures.bytes.0 c.if-read-most.false refl,
     )
 
 pub returns-then-not-branch-clause-ok : goal.returns-then-not-branch-clause-ok
@@ -136,18 +119,16 @@ returns-then-not-branch-clause-ok g c =
     let inv = c.loop-lines.invariant in
     let count = c.in_ok-count.count in
     let room = c.read.new.room in
-    let is : c.in_ok-print.field-0 ≡ false = search rules in
-    let len : length room ≡ c.room_behind-room.result = search rules in
+    let is : c.in_ok-print.field-0 ≡ false = c.if-not-branch.true in
     let fed =
     rw (is, take-append-le count room (drop c.room_behind-room.result c.loop-lines.piece) c.in_ok-count.ensures.bound.0) at c.in_ok-print.ensures.ok in
     let all = inv.bytes ++ take count room in
     let over = fed.2 c.args.sink inv.bytes inv.text inv.holds in (
       all,
       inv.text ++ fed.0,
-      reads_lines c.args.most (GoesOn S.limits S.takes c.args.sink) _ _ _ c.loop-lines.read count inv.bytes (take count room) all inv.holds.goes
-          inv.consumed inv.count
-          c.in_ok-count.ensures.bytes.0 (sym (length-take-le count room c.in_ok-count.ensures.bound.0)) (omega (arith, len, c.in_ok-count.ensures.bound.0))
-          (omega arith) refl,
+      reads_piece c.args.most c.loop-lines.read c.room_behind-room.result count c.loop-lines.piece room
+          c.room_behind-room.ensures c.read.auto.room c.in_ok-count.ensures.bound.0 (GoesOn S.limits S.takes c.args.sink) _ _ _ inv.bytes all
+          inv.holds.goes inv.consumed inv.count c.in_ok-count.ensures.bytes.0 c.if-read-most.false refl,
       (
         rw (over.text_is, ← append-nil all) (stops_whatever S.limits S.takes c.args.sink all over.at []),
         inr (record { none = refl; at = over.at; text = over.text_is }),
@@ -161,7 +142,7 @@ loop-lines-preserved g c =
     let inv = c.loop-lines.invariant in
     let count = c.in_ok-count.count in
     let room = c.read.new.room in
-    let is : c.in_ok-print.field-0 ≡ true = search rules in
+    let is : c.in_ok-print.field-0 ≡ true = c.if-not-branch.false in
     let counted : length (take count room) ≡ count = length-take-le count room c.in_ok-count.ensures.bound.0 in
     let fed =
     rw (is, take-append-le count room (drop c.room_behind-room.result c.loop-lines.piece) c.in_ok-count.ensures.bound.0) at c.in_ok-print.ensures.ok in
@@ -174,6 +155,6 @@ loop-lines-preserved g c =
       holds = fed.2.on c.args.sink inv.bytes inv.text inv.holds;
       at = fed.2.at;
       number = omega (arith, fed.2.number, inv.number, counted);
-      bound = omega arith;
+      bound = c.if-read-most.false;
       failures = c.in_ok-count.ensures.count ∙ inv.failures;
     }
