@@ -23,7 +23,7 @@ use crate::register_text::push_not_a_register;
 use crate::told_secure_boot::AskedLog;
 use std::alloc::{AllocError, Global};
 use tpm_events::listed_events::MOST_READ;
-use tpm_lists::{AllowIndex, AllowedLine, LookedUp, look_up, read_allowed, unknown_in};
+use tpm_lists::{AllowIndex, LookedUp, look_up, read_allowed, unknown_in};
 use tpm_log::Log;
 use tpm_options::CheckOptions;
 use tpm_output::answer::Answer;
@@ -31,6 +31,7 @@ use tpm_output::fault::ToolFault;
 use tpm_output::reads::read_up_to;
 use tpm_output::status::Status;
 use tpm_types::Selections;
+use tpm_vouched::AllowedDigest;
 use tpm_wire::Source;
 
 // A log beside which a quote is the one asked for, what the quote selects, and what is asked for.
@@ -43,11 +44,11 @@ struct VouchedLog<'a, 'b, 'c> {
 
 impl<'a, 'b, 'c> VouchedLog<'a, 'b, 'c> {
     // Adds what is said of it beside these digests.
-    fn push_digests<'d>(
+    fn push_digests(
         &self,
         alloc: Global,
         text: &mut String,
-        digests: &'d [AllowedLine<'d>],
+        digests: &[AllowedDigest],
     ) -> Result<Status, AllocError>
         requires { length digests.now < 2 ^ 32 }
         ensures { IfOk result (λ status. Adds (on_digests (vouched_log self.now) digests.now)
@@ -170,7 +171,7 @@ pub(crate) fn answer_to_log(
 }
 
 // The digests of a list, where it isn't too long and no line is wrong.
-fn digests_of(alloc: Global, bytes: &[u8]) -> Result<Option<Vec<AllowedLine<'_>>>, AllocError>
+fn digests_of(alloc: Global, bytes: &[u8]) -> Result<Option<Vec<AllowedDigest>>, AllocError>
     ensures { IfOk result (λ read. IfSome read (λ digests.
         AreAllOf bytes.now digests.items × (length digests.items < 2 ^ 32))) }
 {

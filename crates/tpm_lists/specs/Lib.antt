@@ -1,5 +1,4 @@
 pub mod ListLines
-pub mod AllowedLine
 pub mod AllowLines
 pub mod Extensions
 pub mod LookingUp

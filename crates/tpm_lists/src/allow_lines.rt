@@ -1,41 +1,60 @@
 //! The lines of a list of allowed digests.
 
-ghost use Rattle.std.specs.Prelude.{◌≡◌, ◌<◌, ◌≤◌, ◌^◌, ◌∷◌, if◌then◌else◌, false, IfOk, IfSome, length};
-ghost use Rattle.std.specs.Prelude.{option_map, position};
+ghost use Rattle.std.specs.Prelude.{◌≡◌, ◌<◌, ◌≤◌, ◌^◌, ◌∷◌, if◌then◌else◌, false, IfOk, IfSome, MatchOption};
+ghost use Rattle.std.specs.Prelude.{length, option_map, position};
 ghost use Rattle.memchr.specs.Find.{is_byte};
 ghost use Rattle.std.specs.List.{before_first, list_any, slice_split};
 ghost use Rattle.tpm_output.specs.Text.{bytes_in};
 ghost use Rattle.tpm_lists.specs.AllowLines.{allow_line, allowed_in, allowing, allowing_in, begins_comment};
 ghost use Rattle.tpm_lists.specs.AllowLines.{is_blank, is_feed, read_as};
-ghost use Rattle.tpm_lists.specs.declared.allow_lines.AllowLine.TheVariants.{Allows, Nothing};
+ghost use Rattle.tpm_lists.specs.declared.allow_lines.AllowLine.TheVariants.{Allows, Nothing, Wrong};
 ghost use Rattle.tpm_lists.specs.inner.AllowReading.{IsFront, IsFrontOf, ends_word, lines_left};
 
-use crate::allowed_line::AllowedLine;
+use crate::digits::decode;
 use crate::stated::{bank_named, cut, register_named};
 use memchr::memchr;
 use std::alloc::{AllocError, Global};
-use tpm_types::{Alg, PcrIndex};
+use tpm_types::{Alg, DIGEST_BYTES, HashedDigest, PcrIndex};
+use tpm_vouched::AllowedDigest;
 
 /// No line that allows a digest has fewer bytes, with the line feed behind it.
 const SHORTEST_LINE: usize = 48;
 
 /// What a line says.
 #[derive(Drop)]
-pub(crate) enum AllowLine<'a> {
+pub(crate) enum AllowLine {
     /// A digest by which a register may be extended.
-    Allows(AllowedLine<'a>),
+    Allows(AllowedDigest),
     /// Nothing: it has no word before a comment.
     Nothing,
     /// None of these.
     Wrong,
 }
 
-// What hexadecimal digits allow, where they spell a digest of the bank.
-fn read_digest(bank: Alg, register: PcrIndex, digits: &[u8]) -> AllowLine<'_>
+// What these digits allow, where they spell a digest of the bank.
+fn allowed(bank: Alg, register: PcrIndex, digits: &[u8]) -> Option<AllowedDigest>
+    ensures { MatchOption result (allowing bank register (bytes_in digits.now) ≡ Wrong)
+        (λ a. allowing bank register (bytes_in digits.now) ≡ Allows a) }
+{
+    let len = bank.digest_len();
+    if digits.len() != 2 * len {
+        return None;
+    }
+    let mut room = [0; DIGEST_BYTES];
+    let bytes = &mut room[..len];
+    if !decode(digits, bytes) {
+        return None;
+    }
+    let digest = HashedDigest::new(bank, bytes)?;
+    Some(AllowedDigest { register, digest })
+}
+
+// What these digits say.
+fn read_digest(bank: Alg, register: PcrIndex, digits: &[u8]) -> AllowLine
     ensures { result ≡ allowing bank register (bytes_in digits.now) }
 {
-    match AllowedLine::new(bank, register, digits) {
-        Some(line) => AllowLine::Allows(line),
+    match allowed(bank, register, digits) {
+        Some(digest) => AllowLine::Allows(digest),
         None => AllowLine::Wrong,
     }
 }
@@ -101,7 +120,7 @@ fn is_blank(text: &[u8]) -> bool
 }
 
 // What the words of a line say.
-fn read_words<'a>(text: &'a [u8], front: &Option<Front<'a>>) -> AllowLine<'a>
+fn read_words<'a>(text: &'a [u8], front: &Option<Front<'a>>) -> AllowLine
     requires { IsFrontOf text.now front.now }
     ensures { result ≡ allowing_in text.now }
 {
@@ -115,7 +134,7 @@ fn read_words<'a>(text: &'a [u8], front: &Option<Front<'a>>) -> AllowLine<'a>
 }
 
 // What is said before a comment, and what stands before its digits.
-fn read_text<'a>(text: &'a [u8], last: &mut Option<Front<'a>>) -> AllowLine<'a>
+fn read_text<'a>(text: &'a [u8], last: &mut Option<Front<'a>>) -> AllowLine
     requires none { list_any begins_comment text.now ≡ false }
     requires line { list_any is_feed text.now ≡ false }
     requires last { IfSome last.old IsFront }
@@ -151,10 +170,7 @@ fn cut_line(bytes: &[u8]) -> (&[u8], Option<&[u8]>)
 
 // The digest of the first line, and what stands behind its line feed, where that line begins as the one before, as most
 // do. So neither a space nor a comment nor its end is looked for before its digits.
-fn take_behind<'a>(
-    bytes: &'a [u8],
-    front: &Front<'_>,
-) -> Option<(AllowedLine<'a>, Option<&'a [u8]>)>
+fn take_behind<'a>(bytes: &'a [u8], front: &Front<'_>) -> Option<(AllowedDigest, Option<&'a [u8]>)>
     requires { IsFront front.now }
     ensures line { IfSome result (λ taken.
         allow_line (before_first is_feed bytes.now) ≡ Allows taken.0) }
@@ -169,12 +185,12 @@ fn take_behind<'a>(
     if !ends_word(words) {
         return None;
     }
-    let allowed = AllowedLine::new(front.bank, front.register, digits)?;
+    let allowed = allowed(front.bank, front.register, digits)?;
     Some((allowed, behind))
 }
 
 // What the first line says, and what stands behind its line feed, where it has one.
-fn take_line<'a>(bytes: &'a [u8], last: &mut Option<Front<'a>>) -> (AllowLine<'a>, Option<&'a [u8]>)
+fn take_line<'a>(bytes: &'a [u8], last: &mut Option<Front<'a>>) -> (AllowLine, Option<&'a [u8]>)
     requires { IfSome last.old IsFront }
     ensures said { result.0 ≡ allow_line (before_first is_feed bytes.now) }
     ensures lines { slice_split is_feed bytes.now
@@ -201,7 +217,7 @@ fn take_line<'a>(bytes: &'a [u8], last: &mut Option<Front<'a>>) -> (AllowLine<'a
 pub fn read_allowed(
     alloc: Global,
     bytes: &[u8],
-) -> Result<Result<Vec<AllowedLine<'_>>, u64>, AllocError>
+) -> Result<Result<Vec<AllowedDigest>, u64>, AllocError>
     requires { length bytes.now ≤ 16777216 }
     ensures value { IfOk result (λ read. read_as read ≡ allowed_in bytes.now) }
     ensures few { IfOk result (λ read. IfOk read (λ found. length found.items < 2 ^ 32)) }

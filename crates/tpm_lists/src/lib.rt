@@ -3,15 +3,15 @@
 
 mod allow_index;
 mod allow_lines;
-mod allowed_line;
+mod digits;
 mod extensions;
 mod list_lines;
 mod looked_up;
+mod sought;
 mod stated;
 
 pub use allow_index::AllowIndex;
 pub use allow_lines::read_allowed;
-pub use allowed_line::AllowedLine;
 pub use extensions::{Extension, extensions_in, unknown_in};
 pub use list_lines::{Heading, ListLine, MOST_LINE, read_line};
 pub use looked_up::{LookedUp, look_up};

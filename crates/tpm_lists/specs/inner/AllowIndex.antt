@@ -3,23 +3,15 @@ use Rattle.std.specs.Prelude.{◌≡◌, ◌≤◌, ◌<◌, ◌+◌, ◌*◌, �
 use Rattle.std.specs.Prelude.{get_or, length, take, nat_eq}
 use Rattle.std.specs.Cmp.Lexicographic.{pointwise}
 use Rattle.std.specs.List.{list_any}
-use Rattle.hex.specs.Hex.{encode_lower}
 use Rattle.tpm_types.specs.declared.alg.Alg.{Alg}
 use Rattle.tpm_types.specs.Alg.{alg_number}
 use Rattle.tpm_vouched.specs.declared.allowed.AllowedDigest.{AllowedDigest}
 use Rattle.tpm_vouched.specs.Allowed.{is_for, names}
 
--- what tells a digit from the others, in either case
-abbrev pub low : ℕ → ℕ
-low digit = digit % 32
-
--- by the digits that a digest begins with
-abbrev pub digits_bucket : List ℕ → ℕ
-digits_bucket (a ∷ b ∷ c ∷ d ∷ rest) = (((low a * 26 + low b) * 26 + low c) * 26 + low d) % 16384
-digits_bucket _ = 0
-
+-- by the first two bytes of a digest
 abbrev pub bucket : List ℕ → ℕ
-bucket digest = digits_bucket (encode_lower digest)
+bucket (first ∷ second ∷ rest) = (first * 256 + second) % 16384
+bucket _ = 0
 
 abbrev pub bucket_of : AllowedDigest → ℕ
 bucket_of a = bucket a.digest.1

@@ -1,6 +1,6 @@
-use Rattle.std.proofs.Common.{◌≡◌, ◌+◌, ℕ, ap, arith, length, length-append, refl, rules, subst}
+use Rattle.std.proofs.Common.{◌≡◌, ◌+◌, ℕ, ap, arith, length, length-append, refl, rules, subst, ◌∙◌}
 use Rattle.std.proofs.lemmas.List.{get_or_read}
-use Rattle.tpm_lists.specs.inner.AllowIndex.{AreChains, bucket_of}
+use Rattle.tpm_lists.specs.inner.AllowIndex.{AreChains, bucket, bucket_of}
 use Rattle.tpm_lists.proofs.AllowFinding.{chains_next, chains_start}
 use Rattle.tpm_lists.proofs.allow_index.chains_of.Goals as goal
 
@@ -12,7 +12,7 @@ pub loop-allowed-preserved : goal.loop-allowed-preserved
 loop-allowed-preserved c =
     let l = c.loop-allowed in
     let a = c.allowed-item.result in
-    let is : c.bucket-bucket.result ≡ bucket_of a = c.bucket-bucket.ensures.value in
+    let is : c.bucket-bucket.result ≡ bucket_of a = c.bucket-bucket.ensures.value ∙ ap bucket c.digest.ensures.value in
     let b = c.bucket-bucket.result in
     let pushed = c.in_ok-push.ensures.items in
     let place : c.len.result ≡ l.allowed-index + 1 = omega (arith, l.invariant.long, simp length-append at (ap length pushed)) in

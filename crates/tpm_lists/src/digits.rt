@@ -1,0 +1,80 @@
+//! Hexadecimal digits as the bytes that they spell.
+//!
+//! A processor foresees no digit of a digest, so that no branch goes by one here, as one does in `hex`: several digits
+//! are decoded at once.
+
+ghost use Rattle.std.specs.Prelude.{◌≡◌, ◌<◌, ◌*◌, length, true, unwrap_or, MatchBool, None, Some};
+ghost use Rattle.std.specs.List.{list_all};
+ghost use Rattle.hex.specs.Hex.{hex_digit_value, is_hex_digit};
+ghost use Rattle.tpm_output.specs.Text.{bytes_in};
+
+use crate::sought::SHA256_BYTES;
+
+const SHA256_DIGITS: usize = 2 * SHA256_BYTES;
+
+// Whether all are hexadecimal digits.
+#[inline(always)]
+fn are_digits(text: &[u8]) -> bool
+    ensures { result ≡ list_all is_hex_digit text.now }
+{
+    let mut are = true;
+    for byte in text {
+        are &= byte.is_ascii_hexdigit();
+    }
+    are
+}
+
+// The value of a hexadecimal digit.
+#[inline(always)]
+fn value(digit: u8) -> u8
+    ensures value { result ≡ unwrap_or (hex_digit_value digit) 0 }
+    ensures below { result < 16 }
+{
+    match digit {
+        b'0'..=b'9' => digit - b'0',
+        b'a'..=b'f' => digit - b'a' + 10,
+        b'A'..=b'F' => digit - b'A' + 10,
+        _ => 0,
+    }
+}
+
+// Writes the bytes that these digits spell.
+#[inline(always)]
+fn write_spelled(digits: &[u8], bytes: &mut [u8])
+    requires long { length digits.now ≡ 2 * length bytes.old }
+    requires digits { list_all is_hex_digit digits.now ≡ true }
+    ensures { bytes_in digits.now ≡ Some bytes.new }
+{
+    for at in 0..digits.len() / 2 {
+        bytes[at] = value(digits[2 * at]) * 16 + value(digits[2 * at + 1]);
+    }
+}
+
+// Writes the bytes that these digits spell, where all are digits.
+#[inline(always)]
+fn decode_in(digits: &[u8], bytes: &mut [u8]) -> bool
+    requires { length digits.now ≡ 2 * length bytes.old }
+    ensures { MatchBool result
+        (bytes_in digits.now ≡ Some bytes.new)
+        (bytes_in digits.now ≡ None) }
+{
+    if !are_digits(digits) {
+        return false;
+    }
+    write_spelled(digits, bytes);
+    true
+}
+
+/// Writes the bytes that these digits spell, two to a byte, where all are hexadecimal digits, and answers whether they
+/// are. Those of SHA-256, whose number is known here, are decoded without a loop.
+pub(crate) fn decode(digits: &[u8], bytes: &mut [u8]) -> bool
+    requires { length digits.now ≡ 2 * length bytes.old }
+    ensures { MatchBool result
+        (bytes_in digits.now ≡ Some bytes.new)
+        (bytes_in digits.now ≡ None) }
+{
+    match digits.as_array::<SHA256_DIGITS>() {
+        Some(digits) => decode_in(digits, bytes),
+        None => decode_in(digits, bytes),
+    }
+}
