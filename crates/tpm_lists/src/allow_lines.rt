@@ -32,7 +32,8 @@ pub(crate) enum AllowLine {
 }
 
 // What these digits allow, where they spell a digest of the bank.
-fn allowed(bank: Alg, register: PcrIndex, digits: &[u8]) -> Option<AllowedDigest>
+#[inline(always)]
+fn allowed_in(bank: Alg, register: PcrIndex, digits: &[u8]) -> Option<AllowedDigest>
     ensures { MatchOption result (allowing bank register (bytes_in digits.now) ≡ Wrong)
         (λ a. allowing bank register (bytes_in digits.now) ≡ Allows a) }
 {
@@ -47,6 +48,17 @@ fn allowed(bank: Alg, register: PcrIndex, digits: &[u8]) -> Option<AllowedDigest
     }
     let digest = HashedDigest::new(bank, bytes)?;
     Some(AllowedDigest { register, digest })
+}
+
+// The same. Those of SHA-256, whose number is known here, are decoded without a loop.
+fn allowed(bank: Alg, register: PcrIndex, digits: &[u8]) -> Option<AllowedDigest>
+    ensures { MatchOption result (allowing bank register (bytes_in digits.now) ≡ Wrong)
+        (λ a. allowing bank register (bytes_in digits.now) ≡ Allows a) }
+{
+    match bank {
+        Alg::Sha256 => allowed_in(Alg::Sha256, register, digits),
+        Alg::Sha1 | Alg::Sha384 => allowed_in(bank, register, digits),
+    }
 }
 
 // What these digits say.

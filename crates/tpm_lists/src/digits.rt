@@ -8,10 +8,6 @@ ghost use Rattle.std.specs.List.{list_all};
 ghost use Rattle.hex.specs.Hex.{hex_digit_value, is_hex_digit};
 ghost use Rattle.tpm_output.specs.Text.{bytes_in};
 
-use crate::sought::SHA256_BYTES;
-
-const SHA256_DIGITS: usize = 2 * SHA256_BYTES;
-
 // Whether all are hexadecimal digits.
 #[inline(always)]
 fn are_digits(text: &[u8]) -> bool
@@ -50,9 +46,10 @@ fn write_spelled(digits: &[u8], bytes: &mut [u8])
     }
 }
 
-// Writes the bytes that these digits spell, where all are digits.
+/// Writes the bytes that these digits spell, two to a byte, where all are hexadecimal digits, and answers whether they
+/// are.
 #[inline(always)]
-fn decode_in(digits: &[u8], bytes: &mut [u8]) -> bool
+pub(crate) fn decode(digits: &[u8], bytes: &mut [u8]) -> bool
     requires { length digits.now ≡ 2 * length bytes.old }
     ensures { MatchBool result
         (bytes_in digits.now ≡ Some bytes.new)
@@ -63,18 +60,4 @@ fn decode_in(digits: &[u8], bytes: &mut [u8]) -> bool
     }
     write_spelled(digits, bytes);
     true
-}
-
-/// Writes the bytes that these digits spell, two to a byte, where all are hexadecimal digits, and answers whether they
-/// are. Those of SHA-256, whose number is known here, are decoded without a loop.
-pub(crate) fn decode(digits: &[u8], bytes: &mut [u8]) -> bool
-    requires { length digits.now ≡ 2 * length bytes.old }
-    ensures { MatchBool result
-        (bytes_in digits.now ≡ Some bytes.new)
-        (bytes_in digits.now ≡ None) }
-{
-    match digits.as_array::<SHA256_DIGITS>() {
-        Some(digits) => decode_in(digits, bytes),
-        None => decode_in(digits, bytes),
-    }
 }

@@ -11,8 +11,8 @@ use tpm_vouched::AllowedDigest;
 /// How many buckets digests lie in.
 pub(crate) const BUCKETS: usize = 16384;
 
-/// How many bytes a digest of SHA-256 has. Most have so many, which are read and compared without a loop.
-pub(crate) const SHA256_BYTES: usize = 32;
+// How many bytes a digest of SHA-256 has. Most have so many, which are compared without a loop.
+const SHA256_BYTES: usize = 32;
 
 /// The bucket of a digest.
 pub(crate) fn bucket(digest: &[u8]) -> usize

@@ -1,6 +1,6 @@
 use Rattle.std.proofs.Common.{arith}
 use Rattle.tpm_lists.proofs.Spelling.{other_length}
-use Rattle.tpm_lists.proofs.allow_lines.allowed.Goals as goal
+use Rattle.tpm_lists.proofs.allow_lines.allowed_in.Goals as goal
 
 pub returns-then-digits-len : goal.returns-then-digits-len
 returns-then-digits-len c =
