@@ -1,10 +1,11 @@
 -- What hexadecimal digits spell, two to a byte.
 use Rattle.std.proofs.Common.{◌≡◌, ◌<◌, ◌≤◌, ◌+◌, ◌*◌, ℕ, List, Bool, true, false, Some, None, Ok, Err}
 use Rattle.std.proofs.Common.{length, slice_index, take, drop, is_some}
-use Rattle.std.proofs.Common.{arith, refl, ap, sym, ◌∙◌, Result, eqb}
-use Rattle.std.specs.Prelude.{Option, slice_set, unwrap_or}
+use Rattle.std.proofs.Common.{arith, refl, ap, subst, sym, ◌∙◌, Result, eqb}
+use Rattle.std.specs.Prelude.{◌≢◌, Option, slice_set, unwrap_or}
 use Rattle.std.specs.List.{list_all}
-use Rattle.std.proofs.lemmas.Bool.{eqb-true}
+use Rattle.std.proofs.lemmas.Bool.{eq-eqb, eqb-true}
+use Rattle.std.proofs.lemmas.List.{get_or-set_other, get_or-set_same}
 use Rattle.std.proofs.lemmas.List.Sums.{AllPass-from_list_all, list_all-from_AllPass}
 use Rattle.hex.specs.Hex.{decode_of, decode_pairs, hex_digit_value, is_hex_digit, pair_value}
 use Rattle.hex.specs.declared.error.FromHexError.{FromHexError}
@@ -15,6 +16,7 @@ use Rattle.tpm_types.specs.Alg.{digest_len}
 use Rattle.tpm_output.specs.Text.{bytes_in, value_of}
 use Rattle.tpm_lists.specs.declared.allow_lines.AllowLine.TheVariants.{Wrong}
 use Rattle.tpm_lists.specs.AllowLines.{allowing}
+use Rattle.tpm_lists.specs.inner.Digits.{AreValues}
 
 -- ---- one byte
 
@@ -26,6 +28,26 @@ pub two_digits : (high low i v w : ℕ) → is_hex_digit high ≡ true → is_he
     → v ≡ unwrap_or (hex_digit_value high) 0 → w ≡ unwrap_or (hex_digit_value low) 0 → pair_value high low i ≡ Ok (v * 16 + w)
 two_digits high low i v w one two first second =
     rw (some_is (hex_digit_value high) v one first, some_is (hex_digit_value low) w two second) refl
+
+-- ---- the values of digits
+
+below_of : (m n : ℕ) → m < n + 1 → (m ≡ n → ⊥) → m < n
+below_of m n less other = omega (arith, less, other)
+
+-- one more
+pub values_more : (digits values : List ℕ) (n v : ℕ) → n < length values → v ≡ unwrap_or (hex_digit_value (slice_index digits n)) 0
+    → AreValues digits values n → AreValues digits (slice_set values n v) (n + 1)
+values_more digits values n v inside is so-far = λ k less. go k less (eqb k n) refl
+  where
+    go : (k : ℕ) → k < n + 1 → (b : Bool) → eqb k n ≡ b
+        → slice_index (slice_set values n v) k ≡ unwrap_or (hex_digit_value (slice_index digits k)) 0
+    go k less true same =
+        let here : n ≡ k = sym (eqb-true k n same) in
+        subst (λ (i : ℕ). slice_index (slice_set values n v) i ≡ unwrap_or (hex_digit_value (slice_index digits i)) 0) here
+        (get_or-set_same values n v 0 inside ∙ is)
+    go k less false other =
+        let apart : k ≢ n = λ e. absurd (let t : true ≡ false = sym (eq-eqb k n e) ∙ other in cc) in
+        get_or-set_other values n k v 0 apart ∙ so-far k (below_of k n less apart)
 
 -- ---- all of them
 

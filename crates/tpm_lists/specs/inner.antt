@@ -1,4 +1,5 @@
 -- Definitions that serve proofs alone: no contract that is handed out names them.
 pub mod AllowIndex
 pub mod AllowReading
+pub mod Digits
 pub mod LookingUp
