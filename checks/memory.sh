@@ -1,7 +1,8 @@
 #!/bin/sh
 # Each request of the program for memory, refused in turn: `out of memory` with status 3, or the answer as if none had
 # been refused (the program may ask again for less), and never another answer. And no run is out of memory where no
-# request is refused. Packets are told as they come, in the same memory however many there are.
+# request is refused. Packets are told as they come, and lists of allowed digests read, in the same memory however long
+# these are.
 
 . "$(dirname "$0")/shared.sh"
 want_program
@@ -61,6 +62,21 @@ else
     rm -f "$room/many.pcap"
 fi
 
+signed='--attest checks/quotes/not-measured.msg --nonce c0ffee0000000000000000000000000000000000'
+printf 'sha256 10 %s\n' "$(zeros 32)" >"$room/allow"
+
+name="a list of 16 MB is compared in 16 MB of memory"
+{ cat "$room/allow" && yes '# not measured' | head -c $((16777216 - 75)); } >"$room/comments"
+(ulimit -v 16384 && "$program" check checks/logs/worked.log $signed --allow "$room/comments") >"$room/out" 2>"$room/err"
+status=$?
+"$program" check checks/logs/worked.log $signed --allow "$room/allow" >"$room/out.wanted"
+if [ $status = 0 ] && cmp -s "$room/out" "$room/out.wanted"; then
+    pass "$name"
+else
+    fail "$name" "status $status: $(tail -n 1 "$room/out") $(cat "$room/err")"
+fi
+rm -f "$room/comments"
+
 if [ -z "$compiler" ]; then
     skip "refused memory" "no C compiler was found for checks/refuse.c, which refuses it"
 elif ! "$compiler" -shared -fPIC -O1 -o "$room/refuse.so" checks/refuse.c -ldl 2>"$room/err"; then
@@ -105,9 +121,11 @@ else
     refuses "the header of what is no log" events checks/logs/older_form.log --header --json
     refuses "the banks that a log lists" check checks/logs/fewer_and_in_other_order.log --listed --json
     refuses "a hash without a name" check --hash sha512 checks/logs/worked.log
-    signed='--attest checks/quotes/not-measured.msg --nonce c0ffee0000000000000000000000000000000000'
     refuses "a quote as it was signed with what is required" check checks/logs/worked.log $signed --require sha256:10
     refuses "a quote as it was signed that lacks what is required" check checks/logs/worked.log $signed --require sha256:7
+    refuses "a log beside allowed digests" check checks/logs/worked.log $signed --allow "$room/allow"
+    echo 'sha256 10' >"$room/wrong"
+    refuses "a log beside a list with a wrong line" check checks/logs/worked.log $signed --allow "$room/wrong"
     refuses "records beside a quote" events checks/logs/worked.log $signed --require sha256:10
     refuses "no records beside a quote that lacks what is required" events checks/logs/worked.log $signed --require sha256:7
     refuses "a list of no registers" check checks/logs/worked.log $signed --require no

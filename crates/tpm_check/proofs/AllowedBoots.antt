@@ -7,13 +7,14 @@ use Rattle.tpm_vouched.specs.declared.allowed.AllowedDigest.{AllowedDigest}
 use Rattle.tpm_output.specs.declared.status.Status.TheVariants.{Done, Refused}
 use Rattle.tpm_output.specs.declared.status.Status.{Status}
 use Rattle.tpm_output.specs.Status.{both}
+use Rattle.tpm_lists.specs.declared.allow_file.AllowFile.TheVariants.{Digests}
+use Rattle.tpm_lists.specs.declared.allow_file.AllowFile.{AllowFile}
 use Rattle.tpm_check.specs.AllowedBoot.{ChecksBeside, SaysBehind, VouchedLog, on_digests, on_selected}
 use Rattle.tpm_check.specs.Asked.{Asked, AskedQuote}
 use Rattle.tpm_check.specs.CheckAttest.{ChecksAttest, IsFollowed, OnDone, Says, Selects, behind, ended}
 use Rattle.tpm_check.specs.Compare.{Verdict, beside, printed}
 use Rattle.tpm_check.specs.QuotedBoot.{ChecksBoot}
 use Rattle.tpm_check.specs.SecureBootLines.{TellsSecureBoot}
-use Rattle.tpm_check.specs.inner.AllowedBoot.{AreAllOf}
 use Rattle.tpm_check.specs.inner.CheckAttest.{Adds}
 
 -- One is said behind the other.
@@ -24,10 +25,10 @@ adds_behind v w one two status old mid new first next is = (
   next.1 ∙ ap (λ (t : List ℕ). t ++ w.text) first.1 ∙ append_assoc old v.text w.text,
 )
 
--- beside a list that has no fault
-pub selected_digests : (q : VouchedLog) (allow : List ℕ) (digests : List AllowedDigest) → AreAllOf allow digests → q.options.secure_boot ≡ false
-    → on_selected (Some allow) q ≡ on_digests q digests
-selected_digests q allow digests are no-boot = rw (no-boot, are.0, are.1) refl
+-- beside the digests of a list
+pub selected_digests : (q : VouchedLog) (digests : List AllowedDigest) → q.options.secure_boot ≡ false
+    → on_selected (Some (Digests digests)) q ≡ on_digests q digests
+selected_digests q digests no-boot = rw no-boot refl
 
 -- ---- behind a quote
 
@@ -75,10 +76,11 @@ module _ (q : AskedQuote) (next other : List Selection → Verdict) (same : (sel
 
 -- ---- what is asked beside both
 
-pub checks_boot : (a : Asked) (attest allow bytes : List ℕ) (status : Status) (text : List ℕ) → a.attest ≡ Some attest → a.allow ≡ Some allow
+pub checks_boot : (a : Asked) (attest : List ℕ) (allow : AllowFile) (bytes : List ℕ) (status : Status) (text : List ℕ)
+    → a.attest ≡ Some attest → a.allow ≡ Some allow
     → ChecksBeside a.options (record { attest = attest; allow = Some allow }) bytes status text → ChecksBoot a bytes status text
 checks_boot a attest allow bytes status text quoted listed checks =
     let alone = TellsSecureBoot a.options bytes status text in
-    let beside-list = λ (list : Option (List ℕ)) (quote : List ℕ). ChecksBeside a.options (record { attest = quote; allow = list }) bytes status text in
-    let told : beside-list a.allow attest = subst (λ (list : Option (List ℕ)). beside-list list attest) (sym listed) checks in
+    let beside-list = λ (list : Option AllowFile) (quote : List ℕ). ChecksBeside a.options (record { attest = quote; allow = list }) bytes status text in
+    let told : beside-list a.allow attest = subst (λ (list : Option AllowFile). beside-list list attest) (sym listed) checks in
     subst (λ (quote : Option (List ℕ)). MatchOption quote alone (beside-list a.allow)) (sym quoted) told

@@ -36,9 +36,11 @@ use Rattle.tpm_output.specs.declared.status.Status.TheVariants.{Done, Refused}
 use Rattle.tpm_output.specs.declared.status.Status.{Status}
 use Rattle.tpm_output.specs.InputLines.{most_bytes}
 use Rattle.tpm_output.specs.Status.{both}
+use Rattle.tpm_lists.specs.declared.allow_file.AllowFile.TheVariants.{TooLong}
+use Rattle.tpm_lists.specs.AllowFiles.{list_said, said_by}
 use Rattle.tpm_lists.specs.AllowLines.{AllowRead, allowed_in}
 use Rattle.tpm_check.specs.AllowTold.{first_lacking, first_lacking_of, is_lacking, on_lacking, on_unknown}
-use Rattle.tpm_check.specs.AllowedBoot.{SaysBeside, VouchedLog, boot_if, on_boot, on_digests, on_list, on_read, on_selected}
+use Rattle.tpm_check.specs.AllowedBoot.{SaysBeside, VouchedLog, boot_if, on_boot, on_digests, on_list, on_selected}
 use Rattle.tpm_check.specs.AllowedLogs.{AllowedByQuote, AllowedThere, ListedLog}
 use Rattle.tpm_check.specs.Check.{hash_of}
 use Rattle.tpm_check.specs.CheckAttest.{ChecksAttest, OnDone, Says, Selects, behind, covering, given, is_done, judged, selected}
@@ -263,15 +265,14 @@ held q allow list read done = go (length list == 0) refl (first_lacking list q.s
       none_found = none_of_status found done;
     }
 
-held_of_read : (q : VouchedLog) (allow : List ℕ) (read : AllowRead) → allowed_in allow ≡ read → (on_read q read).status ≡ Done → IsHeld q allow
+held_of_read : (q : VouchedLog) (allow : List ℕ) (read : AllowRead) → allowed_in allow ≡ read → (on_list q (said_by read)).status ≡ Done → IsHeld q allow
 held_of_read q allow (Ok list) is done = held q allow list is done
 held_of_read q allow (Err number) is done = absurd (not_done (sym done))
 
-held_of_list : (q : VouchedLog) (allow : List ℕ) → (on_list q allow).status ≡ Done → IsHeld q allow
+held_of_list : (q : VouchedLog) (allow : List ℕ) → (on_list q (list_said allow)).status ≡ Done → IsHeld q allow
 held_of_list q allow done = go (nat_lt most_bytes (length allow)) done
   where
-    go : (long : Bool) → (if long then refused (fault_told q.options.form (codes "list too long")) else on_read q (allowed_in allow)).status ≡ Done
-        → IsHeld q allow
+    go : (long : Bool) → (on_list q (if long then TooLong else said_by (allowed_in allow))).status ≡ Done → IsHeld q allow
     go true done = absurd (not_done (sym done))
     go false done = held_of_read q allow (allowed_in allow) refl done
 
@@ -322,7 +323,7 @@ module _ (o : CheckOptions) (signed allow bytes : List ℕ) (l : ParsedLog) (fou
       each = each_allowed;
     }
 
-  all_allowed_done : (text : List ℕ) → SaysBeside o (record { attest = signed; allow = Some allow }) found l (printed Done text)
+  all_allowed_done : (text : List ℕ) → SaysBeside o (record { attest = signed; allow = Some (list_said allow) }) found l (printed Done text)
       → AllowedByQuote o signed allow bytes
   all_allowed_done text (first, last, checks, followed, says) = go first.status refl followed
     where
@@ -331,16 +332,16 @@ module _ (o : CheckOptions) (signed allow bytes : List ℕ) (l : ParsedLog) (fou
 
       go : (s : Status) → first.status ≡ s
           → OnDone s ((selections : List Selection) × Selects signed selections
-          × Says (behind first (on_selected (Some allow) (beside_list selections))) last.status last.text) (Says first last.status last.text)
+          × Says (behind first (on_selected (Some (list_said allow)) (beside_list selections))) last.status last.text) (Says first last.status last.text)
           → AllowedByQuote o signed allow bytes
       go Refused is ends = absurd (not_done (says.0 ∙ ends.0 ∙ is))
       go Done is (selections, selects, ends) =
           let q = beside_list selections in
-          let behind_done = (both_done first.status (on_selected (Some allow) q).status (sym (says.0 ∙ ends.0))).1 in
-          let list_done = (both_done (boot_if o.secure_boot (on_boot q)).status (on_list q allow).status behind_done).1 in
+          let behind_done = (both_done first.status (on_selected (Some (list_said allow)) q).status (sym (says.0 ∙ ends.0))).1 in
+          let list_done = (both_done (boot_if o.secure_boot (on_boot q)).status (on_list q (list_said allow)).status behind_done).1 in
           all_are (accepted (beside o.form (value_in found.banks)) o signed first checks is) selections selects (held_of_list q allow list_done)
 
 pub allowed_done : (o : CheckOptions) (signed allow bytes text : List ℕ)
-    → ChecksBoot (record { options = o; attest = Some signed; allow = Some allow }) bytes Done text → AllowedByQuote o signed allow bytes
+    → ChecksBoot (record { options = o; attest = Some signed; allow = Some (list_said allow) }) bytes Done text → AllowedByQuote o signed allow bytes
 allowed_done o signed allow bytes text (inl (l, parses, (found, replays, says))) = all_allowed_done o signed allow bytes l found parses replays text says
 allowed_done o signed allow bytes text (inr (fault, is, told)) = absurd (not_done told.0)

@@ -1,6 +1,6 @@
 -- What is printed of a log beside a quote, and a list of allowed digests (this profile).
-use Rattle.std.specs.Prelude.{ℕ, Bool, true, false, nat_lt, List, [], length, map, codes, Ok, Err}
-use Rattle.std.specs.Prelude.{Option, Some, None, if◌then◌else◌}
+use Rattle.std.specs.Prelude.{ℕ, Bool, true, false, List, [], map, codes, Ok}
+use Rattle.std.specs.Prelude.{Option, Some, None}
 use Rattle.tpm_types.specs.declared.tpms.Selection.{Selection}
 use Rattle.tpm_pcr.specs.Registers.{Registers, value_in}
 use Rattle.tpm_log.specs.Changes.{AreAfter}
@@ -10,8 +10,8 @@ use Rattle.tpm_vouched.specs.declared.allowed.AllowedDigest.{AllowedDigest}
 use Rattle.tpm_options.specs.declared.CheckOptions.{CheckOptions}
 use Rattle.tpm_output.specs.declared.status.Status.TheVariants.{Done}
 use Rattle.tpm_output.specs.declared.status.Status.{Status}
-use Rattle.tpm_output.specs.InputLines.{most_bytes}
-use Rattle.tpm_lists.specs.AllowLines.{AllowRead, allowed_in}
+use Rattle.tpm_lists.specs.declared.allow_file.AllowFile.TheVariants.{Digests, TooLong, Wrong}
+use Rattle.tpm_lists.specs.declared.allow_file.AllowFile.{AllowFile}
 use Rattle.tpm_lists.specs.Extensions.{extensions_in}
 use Rattle.tpm_check.specs.AllowTold.{on_found}
 use Rattle.tpm_check.specs.Asked.{AskedQuote}
@@ -32,15 +32,11 @@ abbrev pub on_digests : VouchedLog → List AllowedDigest → Verdict
 on_digests q list =
     on_found q.options.form list q.selections (extensions_in (Some list) q.log.size (map shown q.log.records))
 
--- of a list its digests, or else the first line that is wrong
-abbrev pub on_read : VouchedLog → AllowRead → Verdict
-on_read q (Ok digests) = on_digests q digests
-on_read q (Err number) = refused (not_a_register_text q.options.form number)
-
-abbrev pub on_list : VouchedLog → (bytes : List ℕ) → Verdict
-on_list q bytes =
-    if nat_lt most_bytes (length bytes) then refused (fault_told q.options.form (codes "list too long"))
-    else on_read q (allowed_in bytes)
+-- beside a list: by its digests, or what is wrong with it
+abbrev pub on_list : VouchedLog → AllowFile → Verdict
+on_list q (Digests list) = on_digests q list
+on_list q (Wrong number) = refused (not_a_register_text q.options.form number)
+on_list q TooLong = refused (fault_told q.options.form (codes "list too long"))
 
 -- whether Secure Boot was on, in the banks whose register 7 is selected
 abbrev pub on_boot : VouchedLog → Verdict
@@ -52,16 +48,16 @@ boot_if false v = printed Done []
 boot_if true v = v
 
 -- Beside a list that comes first where it is asked for, and then what is said beside the list.
-abbrev pub on_selected : (allow : Option (List ℕ)) → VouchedLog → Verdict
+abbrev pub on_selected : (allow : Option AllowFile) → VouchedLog → Verdict
 on_selected None q = on_boot q
 on_selected (Some allow) q = behind (boot_if q.options.secure_boot (on_boot q)) (on_list q allow)
 
 -- ---- a log
 
--- the bytes of a quote as it was signed, and those of a list, where there is one
+-- the bytes of a quote as it was signed, and what a list says, where there is one
 pub record QuoteFiles : Type 0 where
   pub attest : List ℕ
-  pub allow : Option (List ℕ)
+  pub allow : Option AllowFile
 
 -- What a quote says beside registers comes first, and behind one that is the one asked for what is said of what it
 -- selects.
@@ -73,7 +69,7 @@ SaysBehind q found next v =
     × Says (ended q.options.form last) v.status v.text
 
 -- what is said of a log by what a quote selects
-abbrev pub on_quoted : CheckOptions → (allow : Option (List ℕ)) → ParsedLog → List Selection → Verdict
+abbrev pub on_quoted : CheckOptions → (allow : Option AllowFile) → ParsedLog → List Selection → Verdict
 on_quoted o allow l selections = on_selected allow (record { options = o; selections = selections; log = l })
 
 -- beside the registers that the log gives

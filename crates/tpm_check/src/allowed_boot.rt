@@ -1,29 +1,29 @@
 //! The subcommand `check` of a list of allowed digests, beside a quote as it was signed.
 
-ghost use Rattle.std.specs.Prelude.{◌≡◌, ◌<◌, ◌^◌, ℕ, List, Some, false, IfOk, IfSome, IsErrOf};
-ghost use Rattle.std.specs.Prelude.{length, option_map, string_bytes};
+ghost use Rattle.std.specs.Prelude.{◌≡◌, ℕ, List, Some, false, IfOk, IsErrOf};
+ghost use Rattle.std.specs.Prelude.{option_map, string_bytes};
 ghost use Rattle.tpm_wire.specs.Sources.{IsWhereItFailed};
 ghost use Rattle.tpm_events.specs.ListEvents.{most_read};
 ghost use Rattle.tpm_output.specs.declared.fault.ToolFault.TheVariants.{InputTooLong, Read};
 ghost use Rattle.tpm_output.specs.InputLines.{CountsRead};
 ghost use Rattle.tpm_output.specs.Reads.{ReadsNoMore, ReadsUpTo};
 ghost use Rattle.tpm_lists.specs.LookingUp.{IsLookedUp};
+ghost use Rattle.tpm_lists.specs.declared.allow_file.AllowFile.TheVariants.{Digests};
 ghost use Rattle.tpm_check.specs.AllowedBoot.{ChecksBeside, boot_if, on_boot, on_digests, on_list, on_quoted};
 ghost use Rattle.tpm_check.specs.AllowedBoot.{on_selected};
-ghost use Rattle.tpm_check.specs.inner.AllowedBoot.{AreAllOf, vouched_log};
+ghost use Rattle.tpm_check.specs.inner.AllowedBoot.{vouched_log};
 ghost use Rattle.tpm_check.specs.inner.CheckAttest.{Adds};
 
 use crate::allow_told::AllowTold;
 use crate::asked::AskedQuote;
 use crate::behind::{Behind, answer_beside};
 use crate::check_json::{log_fault_answer, push_fault};
-use crate::compared::MOST_BYTES;
 use crate::quoted_boot::quoted_banks;
 use crate::register_text::push_not_a_register;
 use crate::told_secure_boot::AskedLog;
 use std::alloc::{AllocError, Global};
 use tpm_events::listed_events::MOST_READ;
-use tpm_lists::{AllowIndex, LookedUp, look_up, read_allowed, unknown_in};
+use tpm_lists::{AllowFile, AllowIndex, AllowedDigests, LookedUp, look_up, unknown_in};
 use tpm_log::Log;
 use tpm_options::CheckOptions;
 use tpm_output::answer::Answer;
@@ -31,7 +31,6 @@ use tpm_output::fault::ToolFault;
 use tpm_output::reads::read_up_to;
 use tpm_output::status::Status;
 use tpm_types::Selections;
-use tpm_vouched::AllowedDigest;
 use tpm_wire::Source;
 
 // A log beside which a quote is the one asked for, what the quote selects, and what is asked for.
@@ -48,9 +47,8 @@ impl<'a, 'b, 'c> VouchedLog<'a, 'b, 'c> {
         &self,
         alloc: Global,
         text: &mut String,
-        digests: &[AllowedDigest],
+        digests: &AllowedDigests,
     ) -> Result<Status, AllocError>
-        requires { length digests.now < 2 ^ 32 }
         ensures { IfOk result (λ status. Adds (on_digests (vouched_log self.now) digests.now)
             status (string_bytes text.old) (string_bytes text.new)) }
     {
@@ -64,25 +62,25 @@ impl<'a, 'b, 'c> VouchedLog<'a, 'b, 'c> {
         told.push(text, self.quoted)
     }
 
-    // Adds what is said of it beside the bytes of a list.
+    // Adds what is said of it beside a list.
     fn push_list(
         &self,
         alloc: Global,
         text: &mut String,
-        bytes: &[u8],
+        list: &AllowFile,
     ) -> Result<Status, AllocError>
-        ensures { IfOk result (λ status. Adds (on_list (vouched_log self.now) bytes.now)
+        ensures { IfOk result (λ status. Adds (on_list (vouched_log self.now) list.now)
             status (string_bytes text.old) (string_bytes text.new)) }
     {
         let form = self.options.form;
-        if bytes.len() > MOST_BYTES {
-            push_fault(text, form, "list too long")?;
-            return Ok(Status::Refused);
-        }
-        match read_allowed(alloc, bytes)? {
-            Ok(digests) => self.push_digests(alloc, text, digests.as_slice()),
-            Err(number) => {
-                push_not_a_register(text, form, number)?;
+        match list {
+            AllowFile::Digests(digests) => self.push_digests(alloc, text, digests),
+            AllowFile::Wrong(number) => {
+                push_not_a_register(text, form, *number)?;
+                Ok(Status::Refused)
+            }
+            AllowFile::TooLong => {
+                push_fault(text, form, "list too long")?;
                 Ok(Status::Refused)
             }
         }
@@ -106,7 +104,7 @@ impl<'a, 'b, 'c> VouchedLog<'a, 'b, 'c> {
         &self,
         alloc: Global,
         text: &mut String,
-        allow: Option<&[u8]>,
+        allow: Option<&AllowFile>,
     ) -> Result<Status, AllocError>
         ensures { IfOk result (λ status. Adds
             (on_selected (option_map (λ a. a.now) allow.entry) (vouched_log self.now))
@@ -121,13 +119,13 @@ impl<'a, 'b, 'c> VouchedLog<'a, 'b, 'c> {
     }
 }
 
-// A log, with the bytes of a list where there is one.
+// A log, with a list where there is one.
 #[derive(Clone, Copy)]
 struct LogBeside<'a, 'b, 'c> {
     alloc: Global,
     options: &'c CheckOptions<'a>,
     log: &'c Log<'b>,
-    allow: Option<&'c [u8]>,
+    allow: Option<&'c AllowFile>,
 }
 
 impl<'a, 'b, 'c> Behind for LogBeside<'a, 'b, 'c> {
@@ -147,7 +145,7 @@ impl<'a, 'b, 'c> Behind for LogBeside<'a, 'b, 'c> {
 pub(crate) fn answer_to_log(
     alloc: Global,
     quote: AskedQuote<'_, '_>,
-    allow: Option<&[u8]>,
+    allow: Option<&AllowFile>,
     bytes: &[u8],
 ) -> Result<Answer, AllocError>
     ensures { IfOk result (λ a. ChecksBeside quote.entry.options.now
@@ -170,20 +168,6 @@ pub(crate) fn answer_to_log(
     }
 }
 
-// The digests of a list, where it isn't too long and no line is wrong.
-fn digests_of(alloc: Global, bytes: &[u8]) -> Result<Option<Vec<AllowedDigest>>, AllocError>
-    ensures { IfOk result (λ read. IfSome read (λ digests.
-        AreAllOf bytes.now digests.items × (length digests.items < 2 ^ 32))) }
-{
-    if bytes.len() > MOST_BYTES {
-        return Ok(None);
-    }
-    match read_allowed(alloc, bytes)? {
-        Ok(digests) => Ok(Some(digests)),
-        Err(_) => Ok(None),
-    }
-}
-
 // What is printed of a log that was looked up in these digests, or its fault.
 fn answer_to_found(
     alloc: Global,
@@ -192,11 +176,10 @@ fn answer_to_found(
     found: &LookedUp,
 ) -> Result<Answer, AllocError>
     requires { quote.options.now.secure_boot ≡ false }
-    ensures { IfOk result (λ a. (allow bytes : List ℕ)
-        → AreAllOf allow list.now
+    ensures { IfOk result (λ a. (bytes : List ℕ)
         → IsLookedUp list.now found.now bytes
         → ChecksBeside quote.entry.options.now
-        (record { attest = quote.entry.attest.now; allow = Some allow })
+        (record { attest = quote.entry.attest.now; allow = Some (Digests list.now) })
         bytes a.status (string_bytes a.text)) }
 {
     let form = quote.options.form;
@@ -214,7 +197,7 @@ pub(crate) fn answer_to_source<L: Source>(
     alloc: Global,
     log: &mut L,
     quote: AskedQuote<'_, '_>,
-    allow: &[u8],
+    allow: &AllowFile,
 ) -> Result<Answer, ToolFault>
     requires { quote.options.now.secure_boot ≡ false }
     ensures failures { CountsRead (L.failed log.old) (L.failed log.new) result }
@@ -227,13 +210,13 @@ pub(crate) fn answer_to_source<L: Source>(
         bytes a.status (string_bytes a.text)) }
     ensures short { IsErrOf result InputTooLong → ⊥ }
 {
-    match digests_of(alloc, allow)? {
-        Some(digests) => {
-            let mut list = AllowIndex::new(alloc, digests.as_slice())?;
+    match allow {
+        AllowFile::Digests(digests) => {
+            let mut list = AllowIndex::new(alloc, digests)?;
             let found = look_up(alloc, log, MOST_READ, &mut list)?;
             Ok(answer_to_found(alloc, quote, &list, &found)?)
         }
-        None => {
+        AllowFile::Wrong(_) | AllowFile::TooLong => {
             let bytes = read_up_to(alloc, log, MOST_READ)?;
             Ok(answer_to_log(alloc, quote, Some(allow), bytes.as_slice())?)
         }

@@ -142,8 +142,8 @@ fn answer(alloc: Global, name: &str) -> Result<Answer, AllocError>
 /// `SignatureFaultKind`): `KIND: WORDS`.
 ///
 /// The name may be in any letter case. For any other it is `unknown name of a code or of a fault`, and the status
-/// `Refused`. Where a request for memory is refused
-/// the answer is `Memory`, and where the writer fails it is `Write`. What was written before is then left open.
+/// `Refused`. Where a request for memory is refused the answer is `Memory`, and where the writer fails it is `Write`.
+/// What was written before is then left open.
 pub fn explain_kind<W: Write>(alloc: Global, out: &mut W, name: &str) -> Result<Status, ToolFault>
     ensures ok { IfOk result (λ status. (text : List ℕ) × ExplainsKind (spelled name.now) status text
         × Appends (W.contents out.old) (W.contents out.new) text) }

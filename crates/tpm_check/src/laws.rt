@@ -3,6 +3,7 @@
 ghost use Rattle.std.specs.Prelude.{ℕ, List, Some};
 ghost use Rattle.tpm_options.specs.declared.CheckOptions.{CheckOptions};
 ghost use Rattle.tpm_output.specs.declared.status.Status.TheVariants.{Done};
+ghost use Rattle.tpm_lists.specs.AllowFiles.{list_said};
 ghost use Rattle.tpm_check.specs.AllowedLogs.{AllowedByQuote};
 ghost use Rattle.tpm_check.specs.QuotedBoot.{ChecksBoot};
 
@@ -16,6 +17,6 @@ ghost use Rattle.tpm_check.specs.QuotedBoot.{ChecksBoot};
 /// list did.
 pub fn allowed_where_done()
     ensures { (o : CheckOptions) (attest allow bytes text : List ℕ)
-        → ChecksBoot (record { options = o; attest = Some attest; allow = Some allow }) bytes Done text
+        → ChecksBoot (record { options = o; attest = Some attest; allow = Some (list_said allow) }) bytes Done text
         → AllowedByQuote o attest allow bytes }
 {}

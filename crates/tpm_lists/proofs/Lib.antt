@@ -3,6 +3,8 @@ pub mod Below
 pub mod AllowFinding
 mod AllowFronts
 mod AllowReading
+mod ListReading
 mod Spelling
 mod Extending
+mod Waiting
 mod LookingUp

@@ -1,7 +1,6 @@
 -- What a list of allowed digests says (this profile).
 use Rattle.std.specs.Prelude.{ℕ, ◌+◌, ◌==◌, Bool, List, [], ◌∷◌, length, if◌then◌else◌, Option, Some, None}
 use Rattle.std.specs.Prelude.{Result, Ok, Err}
-use Rattle.std.specs.Global.{Vec}
 use Rattle.std.specs.List.{before_first, list_all, slice_split}
 use Rattle.tpm_types.specs.declared.alg.Alg.{Alg}
 use Rattle.tpm_types.specs.Alg.{digest_len}
@@ -66,8 +65,3 @@ is_feed byte = byte == 10
 
 abbrev pub allowed_in : List ℕ → AllowRead
 allowed_in bytes = allowed_from 1 (slice_split is_feed bytes)
-
--- what was read of a list
-abbrev pub read_as : Result (Vec AllowedDigest) ℕ → AllowRead
-read_as (Ok found) = Ok found.items
-read_as (Err number) = Err number

@@ -1,5 +1,6 @@
 pub mod ListLines
 pub mod AllowLines
+pub mod AllowFiles
 pub mod Extensions
 pub mod LookingUp
 pub mod inner

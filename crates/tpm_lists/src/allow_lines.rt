@@ -6,19 +6,15 @@ ghost use Rattle.memchr.specs.Find.{is_byte};
 ghost use Rattle.std.specs.List.{before_first, list_any, slice_split};
 ghost use Rattle.tpm_output.specs.Text.{bytes_in};
 ghost use Rattle.tpm_lists.specs.AllowLines.{allow_line, allowed_in, allowing, allowing_in, begins_comment};
-ghost use Rattle.tpm_lists.specs.AllowLines.{is_blank, is_feed, read_as};
+ghost use Rattle.tpm_lists.specs.AllowLines.{is_blank, is_feed};
 ghost use Rattle.tpm_lists.specs.declared.allow_lines.AllowLine.TheVariants.{Allows, Nothing, Wrong};
 ghost use Rattle.tpm_lists.specs.inner.AllowReading.{IsFront, IsFrontOf, ends_word, lines_left};
 
 use crate::digits::decode;
 use crate::stated::{bank_named, cut, register_named};
 use memchr::memchr;
-use std::alloc::{AllocError, Global};
 use tpm_types::{Alg, DIGEST_BYTES, HashedDigest, PcrIndex};
 use tpm_vouched::AllowedDigest;
-
-/// No line that allows a digest has fewer bytes, with the line feed behind it.
-const SHORTEST_LINE: usize = 48;
 
 /// What a line says.
 #[derive(Drop)]
@@ -91,7 +87,7 @@ fn before(byte: u8, bytes: &[u8]) -> &[u8]
 
 /// What stands before the digits of a line: a bank and the number of a register, with a space behind each.
 #[derive(Clone, Copy)]
-struct Front<'a> {
+pub(crate) struct Front<'a> {
     bank: Alg,
     register: PcrIndex,
     text: &'a [u8],
@@ -201,8 +197,15 @@ fn take_behind<'a>(bytes: &'a [u8], front: &Front<'_>) -> Option<(AllowedDigest,
     Some((allowed, behind))
 }
 
-// What the first line says, and what stands behind its line feed, where it has one.
-fn take_line<'a>(bytes: &'a [u8], last: &mut Option<Front<'a>>) -> (AllowLine, Option<&'a [u8]>)
+/// What the first line says, and what stands behind its line feed, where it has one.
+///
+/// A line has a bank, the number of a register in decimal, and a digest in as many hexadecimal digits as those of the
+/// bank's hash have, with one space between them. Words behind the digest say nothing. A comment begins with `#`, and a
+/// line without words before it says nothing either.
+pub(crate) fn take_line<'a>(
+    bytes: &'a [u8],
+    last: &mut Option<Front<'a>>,
+) -> (AllowLine, Option<&'a [u8]>)
     requires { IfSome last.old IsFront }
     ensures said { result.0 ≡ allow_line (before_first is_feed bytes.now) }
     ensures lines { slice_split is_feed bytes.now
@@ -218,35 +221,4 @@ fn take_line<'a>(bytes: &'a [u8], last: &mut Option<Front<'a>>) -> (AllowLine, O
     let (line, behind) = cut_line(bytes);
     let text = before(b'#', line);
     (read_text(text, last), behind)
-}
-
-/// The digests of a list, fewer than 2^32, or the number of the first line that is wrong.
-///
-/// A line has a bank, the number of a register in decimal, and a digest in as many hexadecimal digits as those of the
-/// bank's hash have, with one space between them. Words behind the digest say nothing. A comment begins with `#`, and a
-/// line without words before it says nothing either. AllocError where a request for memory is refused.
-#[tactic(auto, using(crate::proofs::AllowReading::one_more, crate::proofs::AllowReading::to_end))]
-pub fn read_allowed(
-    alloc: Global,
-    bytes: &[u8],
-) -> Result<Result<Vec<AllowedDigest>, u64>, AllocError>
-    requires { length bytes.now ≤ 16777216 }
-    ensures value { IfOk result (λ read. read_as read ≡ allowed_in bytes.now) }
-    ensures few { IfOk result (λ read. IfOk read (λ found. length found.items < 2 ^ 32)) }
-{
-    let mut found = Vec::with_capacity(alloc, bytes.len() / SHORTEST_LINE + 1)?;
-    let mut number = 0;
-    let mut left = Some(bytes);
-    let mut last = None;
-    while let Some(lines) = left {
-        let (said, behind) = take_line(lines, &mut last);
-        number += 1;
-        match said {
-            AllowLine::Allows(line) => found.push(line)?,
-            AllowLine::Nothing => {}
-            AllowLine::Wrong => return Ok(Err(number)),
-        }
-        left = behind;
-    }
-    Ok(Ok(found))
 }

@@ -2,3 +2,4 @@
 pub mod Escapes
 pub mod InputLines
 pub mod LineReading
+pub mod Reads

@@ -51,10 +51,10 @@ pub of_if : (offered : Offered) (path : Option (Bor (List ℕ))) (x : Option (Op
 of_if offered None x Q h q = subst Q (sym h) q
 of_if offered (Some path) x Q h q = (h.0, h.1, subst Q (sym h.2) q)
 
-pub of_first_if : (offered : Offered) (most : ℕ) (path : Option (Bor (List ℕ))) (x : Option (List ℕ)) (Q : Option (List ℕ) → Type 0)
-    → OfFirstIf offered most path (λ read. read ≡ x) → Q x → OfFirstIf offered most path Q
-of_first_if offered most None x Q h q = subst Q (sym h) q
-of_first_if offered most (Some path) x Q h q = (h.0, h.1, (h.2.0, h.2.1, h.2.2, subst Q (sym h.2.3) q))
+pub of_first_if : (offered : Offered) (most : ℕ) (path : Option (Bor (List ℕ))) (P Q : Option (List ℕ) → Type 0)
+    → ((read : Option (List ℕ)) → P read → Q read) → OfFirstIf offered most path P → OfFirstIf offered most path Q
+of_first_if offered most None P Q f h = f None h
+of_first_if offered most (Some path) P Q f h = (h.0, h.1, (h.2.0, h.2.1, h.2.2, f (Some h.2.0) h.2.3))
 
 -- ---- what keeps it from that
 

@@ -1,5 +1,6 @@
 -- What the program does for each task (this profile): the status and what it prints.
-use Rattle.std.specs.Prelude.{◌≡◌, ℕ, Bool, true, false, ◌&&◌, ◌||◌, List, [], Option, Some, None, is_some, Result}
+use Rattle.std.specs.Prelude.{◌≡◌, ℕ, Bool, true, false, ◌&&◌, ◌||◌, List, [], Option, Some, None, is_some}
+use Rattle.std.specs.Prelude.{option_map, Result}
 use Rattle.std.specs.Borrow.{Bor}
 use Rattle.tpm_pcr.specs.Registers.{Registers}
 use Rattle.tpm_model.specs.Steps.{Origin, new_origin}
@@ -16,6 +17,7 @@ use Rattle.tpm_show.specs.Packets.{OfReadUpTo, TellsPackets, most_packets}
 use Rattle.tpm_show.specs.Show.{Shows, ShowsFields}
 use Rattle.tpm_show.specs.Stream.{OfRead, TellsStream}
 use Rattle.tpm_script.specs.ShowNv.{ShowsNv}
+use Rattle.tpm_lists.specs.AllowFiles.{list_said}
 use Rattle.tpm_check.specs.Asked.{Asked}
 use Rattle.tpm_check.specs.Checked.{ChecksLog}
 use Rattle.tpm_check.specs.Kinds.{ExplainsKind, spelled}
@@ -151,7 +153,7 @@ Performs offered (Check c) status text =
     PrintsAsked (record {
       log = log;
       list = list;
-      asked = record { options = c.options; attest = attest; allow = allow };
+      asked = record { options = c.options; attest = attest; allow = option_map list_said allow };
     }) status text))))
 Performs offered (CheckListed l) status text =
     OfFile offered l.log.now (OfFirst most_read (λ bytes. TellsListed l.form bytes status text))

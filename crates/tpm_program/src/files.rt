@@ -2,6 +2,8 @@
 
 ghost use Rattle.std.specs.Prelude.{◌≡◌, ◌<◌, Ok, IfOk, IfErr, option_map};
 ghost use Rattle.tpm_output.specs.declared.fault.ToolFault.TheVariants.{Read};
+ghost use Rattle.tpm_events.specs.ListEvents.{most_read};
+ghost use Rattle.tpm_lists.specs.AllowFiles.{list_said};
 ghost use Rattle.tpm_program.specs.Offered.{OfFile, OfFileIf};
 ghost use Rattle.tpm_program.specs.Performs.{OfFirst, OfFirstIf};
 ghost use Rattle.tpm_program.specs.inner.Fails.{FailsAt, FailsAtIf, IsNotOpened, IsNotOpenedIf, IsOfReading};
@@ -10,6 +12,7 @@ use crate::cause::Cause;
 use crate::fault::Fault;
 use crate::inputs::Inputs;
 use std::alloc::Global;
+use tpm_lists::{AllowFile, read_list};
 use tpm_output::fault::ToolFault;
 use tpm_output::reads::read_up_to;
 
@@ -93,6 +96,35 @@ pub(crate) fn bytes_if<'a, I: Inputs>(
 {
     match path {
         Some(path) => Ok(Some(bytes_at(alloc, inputs, path, most)?)),
+        None => Ok(None),
+    }
+}
+
+/// What the list of allowed digests at a path says.
+fn list_at<'a, I: Inputs>(alloc: Global, inputs: &I, path: &'a str) -> Result<AllowFile, Fault<'a>>
+    ensures ok { IfOk result (λ list. OfFile (I.offers inputs.now) path.now
+        (OfFirst most_read (λ read. list ≡ list_said read))) }
+    ensures err { IfErr result (λ fault. FailsAt (I.offers inputs.now) path.now fault) }
+{
+    let mut source = opened(inputs, path)?;
+    match read_list(alloc, &mut source) {
+        Ok(list) => Ok(list),
+        Err(fault) => Err(of_reading(inputs, fault, path)),
+    }
+}
+
+/// The same, where there is a path.
+pub(crate) fn list_if<'a, I: Inputs>(
+    alloc: Global,
+    inputs: &I,
+    path: Option<&'a str>,
+) -> Result<Option<AllowFile>, Fault<'a>>
+    ensures ok { IfOk result (λ list. OfFirstIf (I.offers inputs.now) most_read path.entry
+        (λ read. list ≡ option_map list_said read)) }
+    ensures err { IfErr result (λ fault. FailsAtIf (I.offers inputs.now) path.entry fault) }
+{
+    match path {
+        Some(path) => Ok(Some(list_at(alloc, inputs, path)?)),
         None => Ok(None),
     }
 }

@@ -11,13 +11,14 @@ ghost use Rattle.tpm_program.specs.Fails.{Fails};
 ghost use Rattle.tpm_program.specs.inner.Fails.{read_last};
 
 use crate::fault::Fault;
-use crate::files::{bytes_at, bytes_if, of_reading, opened, opened_if};
+use crate::files::{bytes_at, bytes_if, list_if, of_reading, opened, opened_if};
 use crate::inputs::Inputs;
 use std::alloc::Global;
 use std::io::Write;
 use tpm_check::{Asked, check_boot, check_extends, check_listed, check_log, list_vouched};
 use tpm_events::listed_events::MOST_READ;
 use tpm_events::print_header;
+use tpm_lists::AllowFile;
 use tpm_options::{CheckOptions, CheckTask, EventsTask, LogTask};
 use tpm_output::fault::ToolFault;
 use tpm_output::status::Status;
@@ -90,34 +91,22 @@ fn read_last<'a>(failures: u64, log: &'a str, list: Option<&'a str>) -> &'a str
     }
 }
 
-// Bytes that may be there.
-fn slice_if(bytes: &Option<Vec<u8>>) -> Option<&[u8]>
-    ensures { option_map (λ b. b.now) result ≡ option_map (λ v. v.items) bytes.now }
-{
-    match bytes {
-        Some(bytes) => Some(bytes.as_slice()),
-        None => None,
-    }
-}
-
 // What a log is held against, by what was read of the files beside it.
 fn asked_with<'a, 'o>(
     options: &'a CheckOptions<'o>,
     attest: &'a Option<Vec<u8>>,
-    allow: &'a Option<Vec<u8>>,
+    allow: &'a Option<AllowFile>,
 ) -> Asked<'a, 'o>
     ensures { asked_by result ≡ record {
       options = options.now;
       attest = option_map (λ v. v.items) attest.now;
-      allow = option_map (λ v. v.items) allow.now;
+      allow = allow.now;
     } }
 {
-    let attest = slice_if(attest);
-    let allow = slice_if(allow);
     Asked {
         options,
-        attest,
-        allow,
+        attest: attest.as_deref(),
+        allow: allow.as_ref(),
     }
 }
 
@@ -178,7 +167,7 @@ pub(crate) fn check<'a, I: Inputs, W: Write>(
     let mut log = opened(inputs, files.log)?;
     let mut list = opened_if(inputs, files.registers)?;
     let attest = bytes_if(alloc, inputs, files.attest, MOST_ATTEST)?;
-    let allow = bytes_if(alloc, inputs, files.allow, MOST_READ)?;
+    let allow = list_if(alloc, inputs, files.allow)?;
     let asked = asked_with(&task.options, &attest, &allow);
     match check_opened(alloc, &mut log, &asked, &mut list, out) {
         Ok(status) => Ok(status),

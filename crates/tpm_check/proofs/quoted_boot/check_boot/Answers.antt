@@ -1,6 +1,7 @@
 use Rattle.std.proofs.Common.{Bor, List, ℕ, ap, option_map, string_bytes, subst, sym}
 use Rattle.std.proofs.lemmas.Result.{IfOk-weaker}
 use Rattle.tpm_output.specs.declared.status.Status.{Status}
+use Rattle.tpm_lists.specs.declared.allow_file.AllowFile.{AllowFile}
 use Rattle.tpm_check.specs.Asked.{asked_by}
 use Rattle.tpm_check.specs.QuotedBoot.{ChecksBoot}
 use Rattle.tpm_check.proofs.AllowedBoots.{checks_boot}
@@ -13,7 +14,7 @@ returns-in_ok-answer_to_source-in-Some-Some-clause-ok g c =
     let text = string_bytes answer.text in
     let said = c.in_ok-answer_to_source-in-Some-Some.ensures.ok in
     let boot = checks_boot asked c.in-Some-Some.attest.now c.in-Some-Some.allow.now said.0 answer.status text
-    (ap (option_map (λ (b : Bor (List ℕ)). b.now)) c.in-Some-Some.is-0) (ap (option_map (λ (b : Bor (List ℕ)). b.now)) c.in-Some-Some.is-1) said.2 in
+    (ap (option_map (λ (b : Bor (List ℕ)). b.now)) c.in-Some-Some.is-0) (ap (option_map (λ (b : Bor AllowFile). b.now)) c.in-Some-Some.is-1) said.2 in
     IfOk-weaker c.print.result _ _ (λ status printed. (
       said.0,
       text,

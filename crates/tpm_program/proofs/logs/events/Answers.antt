@@ -1,4 +1,4 @@
-use Rattle.std.proofs.Common.{ℕ, List, None, Option, option_map, subst}
+use Rattle.std.proofs.Common.{◌≡◌, ℕ, List, None, Option, option_map, subst, sym}
 use Rattle.tpm_events.specs.ListEvents.{most_read}
 use Rattle.tpm_check.specs.Asked.{Asked}
 use Rattle.tpm_check.specs.VouchedEvents.{ListsBeside}
@@ -19,12 +19,14 @@ returns-in-Ok-clause-ok g c =
       (
         log,
         c.in_ok-log.ensures.opened,
-        of_first_if offered most_attest task.attest (option_map (λ v. v.items) c.in_ok-attest.attest) prints c.in_ok-attest.ensures.ok (
-          said.0,
-          g.I.Source.Source.coming c.list_vouched.new.log,
-          said.2,
-          subst (λ (a : Asked). ListsBeside task.listing a said.0 status said.1) c.asked_with-asked.ensures said.3,
-        ),
+        of_first_if offered most_attest task.attest (λ read. read ≡ option_map (λ v. v.items) c.in_ok-attest.attest) prints
+            (λ read is. subst prints (sym is) (
+              said.0,
+              g.I.Source.Source.coming c.list_vouched.new.log,
+              said.2,
+              subst (λ (a : Asked). ListsBeside task.listing a said.0 status said.1) c.asked_with-asked.ensures said.3,
+            ))
+            c.in_ok-attest.ensures.ok,
       ),
       said.4,
     )
