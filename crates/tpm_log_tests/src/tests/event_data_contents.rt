@@ -1,10 +1,9 @@
 //! What the data of events say. The bytes are those of Python's struct and uuid.
 
-use crate::tests::rows::{Asked, code, codes, ends, has, holds, made, names, rows};
-use arrayvec::ArrayVec;
+use crate::tests::rows::{Asked, Is, code, event, made, prints, rows, tells};
 use std::process::Abort;
 use std::test::*;
-use tpm_event_data::{Content, DataKind, Event, TypedValue, data_kind, packed_paths};
+use tpm_event_data::{Content, TypedValue, data_kind, packed_paths};
 use tpm_testing::word;
 
 // OPTION is "ubuntu" with the device paths PATHS, of which the first is \EFI\A.EFI and the second its end alone. DB
@@ -26,77 +25,72 @@ const BYTES: &str = "
 struct Data;
 
 impl Asked for Data {
-    fn ask<R: Abort>(rt: &R, mut given: &str, mut told: &str) {
+    fn ask<R: Abort>(rt: &R, mut given: &str, told: &mut &str) {
         let kind = code(rt, word(&mut given));
         let bytes = made(rt, BYTES, given);
-        let event = Event {
-            register: 7,
-            kind,
-            digests: ArrayVec::new(),
-            event: bytes.as_slice(),
-        };
-        says(rt, &mut told, event.content());
-        ends(rt, told);
+        let event = event(rt, (7, kind), &[], bytes.as_slice());
+        says(rt, told, event.content());
     }
 }
 
 fn says(rt: &impl Abort, told: &mut &str, content: Content<'_>) {
+    let (name, value) = said(content);
+    tells(rt, BYTES, told, &[Is::Name(name), value]);
+    if let Content::Image(image) = content {
+        tells(rt, BYTES, told, &[Is::Bytes(image.rest)]);
+    }
+}
+
+fn said(content: Content<'_>) -> (&'static str, Is<'_>) {
     match content {
-        Content::Text(text) => says_bytes(rt, told, "text", text.as_bytes()),
-        Content::Units(units) => says_bytes(rt, told, "units", units),
-        Content::Version(units) => says_bytes(rt, told, "version", units),
-        Content::VersionGuid(guid) => says_bytes(rt, told, "guid", guid),
-        Content::Separator(number) => says_number(rt, told, "separator", number as u64),
-        Content::Locality(number) => says_number(rt, told, "locality", number as u64),
-        Content::Variable(_, typed) => holds_value(rt, told, typed),
-        Content::Image(image) => {
-            says_bytes(rt, told, "image", image.path);
-            has(rt, BYTES, told, image.rest);
-        }
-        Content::Other => names(rt, told, "other"),
-        _ => names(rt, told, "more"),
+        Content::Text(text) => ("text", Is::Bytes(text.as_bytes())),
+        Content::Units(units) => ("units", Is::Bytes(units)),
+        Content::Version(units) => ("version", Is::Bytes(units)),
+        Content::VersionGuid(guid) => ("guid", Is::Bytes(guid)),
+        Content::Separator(number) => ("separator", Is::Code(number as u64)),
+        Content::Locality(number) => ("locality", Is::Code(number as u64)),
+        Content::Variable(_, typed) => said_of_variable(typed),
+        Content::Image(image) => ("image", Is::Bytes(image.path)),
+        Content::Other => ("other", Is::Name("")),
+        _ => ("more", Is::Name("")),
     }
 }
 
-fn holds_value(rt: &impl Abort, told: &mut &str, typed: TypedValue<'_>) {
+fn said_of_variable(typed: TypedValue<'_>) -> (&'static str, Is<'_>) {
     match typed {
-        TypedValue::Byte(byte) => says_number(rt, told, "byte", byte as u64),
-        TypedValue::Empty => names(rt, told, "empty"),
-        TypedValue::Bytes => names(rt, told, "bytes"),
-        TypedValue::BootOrder(numbers) => says_bytes(rt, told, "order", numbers),
-        TypedValue::LoadOption(option) => says_bytes(rt, told, "option", option.path),
-        TypedValue::Signatures(lists) => says_bytes(rt, told, "signatures", lists),
-        TypedValue::Signature(one) => says_bytes(rt, told, "signature", one.value),
+        TypedValue::Byte(byte) => ("byte", Is::Code(byte as u64)),
+        TypedValue::Empty => ("empty", Is::Name("")),
+        TypedValue::Bytes => ("bytes", Is::Name("")),
+        TypedValue::BootOrder(numbers) => ("order", Is::Bytes(numbers)),
+        TypedValue::LoadOption(option) => ("option", Is::Bytes(option.path)),
+        TypedValue::Signatures(lists) => ("signatures", Is::Bytes(lists)),
+        TypedValue::Signature(one) => ("signature", Is::Bytes(one.value)),
     }
 }
 
-fn says_bytes(rt: &impl Abort, told: &mut &str, name: &str, bytes: &[u8]) {
-    names(rt, told, name);
-    has(rt, BYTES, told, bytes);
-}
+struct Kinds;
 
-fn says_number(rt: &impl Abort, told: &mut &str, name: &str, number: u64) {
-    names(rt, told, name);
-    codes(rt, told, number);
+impl Asked for Kinds {
+    fn ask<R: Abort>(rt: &R, given: &str, told: &mut &str) {
+        prints(rt, told, data_kind(code(rt, given)));
+    }
 }
 
 #[test]
 fn a_type_has_a_kind(rt: HostRuntime) {
-    holds(
+    rows::<Kinds>(
         &rt,
-        data_kind(0x8000_0008) == DataKind::Blob,
-        "EV_EFI_PLATFORM_FIRMWARE_BLOB",
+        "
+        # EV_EFI_PLATFORM_FIRMWARE_BLOB, EV_EFI_HANDOFF_TABLES, and another
+        80000008 is Blob
+        80000009 is Tables
+        13 is Open
+        ",
     );
-    holds(
-        &rt,
-        data_kind(0x8000_0009) == DataKind::Tables,
-        "EV_EFI_HANDOFF_TABLES",
-    );
-    holds(&rt, data_kind(0x13) == DataKind::Open, "another");
 }
 
 #[test]
-fn texts_versions_and_numbers_are_told(rt: HostRuntime) {
+fn what_data_say_is_told(rt: HostRuntime) {
     rows::<Data>(
         &rt,
         "
@@ -125,15 +119,7 @@ fn texts_versions_and_numbers_are_told(rt: HostRuntime) {
         4 5742434c00 is other
         3 537461727475704c6f63616c6974790003 is locality 3
         3 537461727475704c6f63616c69747900 is other
-        ",
-    );
-}
-
-#[test]
-fn what_variables_hold_is_told(rt: HostRuntime) {
-    rows::<Data>(
-        &rt,
-        "
+        # What variables hold
         80000001 SECURE_BOOT is byte 1
         80000001 NO_SECURE_BOOT is empty
         80000002 ORDER is order 01000000
@@ -142,15 +128,7 @@ fn what_variables_hold_is_told(rt: HostRuntime) {
         800000e0 DB is signature 3082
         800000e0 MOKLIST is signature 3082
         800000e0 SBAT is bytes
-        ",
-    );
-}
-
-#[test]
-fn bytes_behind_the_path_of_an_image_are_lent(rt: HostRuntime) {
-    rows::<Data>(
-        &rt,
-        "
+        # Bytes behind the path of an image are lent.
         80000003 IMAGE is image FIRST_PATH 0000000000000000
         ",
     );
@@ -159,16 +137,10 @@ fn bytes_behind_the_path_of_an_image_are_lent(rt: HostRuntime) {
 struct Paths;
 
 impl Asked for Paths {
-    fn ask<R: Abort>(rt: &R, given: &str, mut told: &str) {
-        let bytes = made(rt, BYTES, given);
-        are_paths(rt, &mut told, bytes.as_slice());
-        ends(rt, told);
-    }
-}
-
-fn are_paths(rt: &impl Abort, told: &mut &str, bytes: &[u8]) {
-    for path in packed_paths(bytes) {
-        has(rt, BYTES, told, path);
+    fn ask<R: Abort>(rt: &R, given: &str, told: &mut &str) {
+        for path in packed_paths(made(rt, BYTES, given).as_slice()) {
+            tells(rt, BYTES, told, &[Is::Bytes(path)]);
+        }
     }
 }
 

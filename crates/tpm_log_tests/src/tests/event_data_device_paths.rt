@@ -1,13 +1,9 @@
 //! Images that were loaded, and device paths. The bytes are those of Python's struct.
 
-use crate::tests::rows::{Asked, code, codes, counts, ends, has, holds, made, names, rows};
-use arrayvec::ArrayVec;
+use crate::tests::rows::{Asked, Is, code, event, faults, holds, made, names, rows, tells};
 use std::process::Abort;
 use std::test::*;
-use tpm_event_data::{
-    DeviceNode, DevicePathFault, DevicePathFaultKind, Event, ImageLoad, ImageLoadFault,
-    ImageLoadFaultKind, device_path, image_load,
-};
+use tpm_event_data::{DeviceNode, DevicePathFault, ImageLoad, device_path, image_load};
 use tpm_testing::word;
 
 // PATH is PciRoot(0x0)/Pci(0x1D,0x0)/\EFI\A.EFI, and the end of the path. NUMBERS are the address 0x7E5D3000, the
@@ -22,56 +18,31 @@ const BYTES: &str = "
 struct Paths;
 
 impl Asked for Paths {
-    fn ask<R: Abort>(rt: &R, given: &str, mut told: &str) {
-        let bytes = made(rt, BYTES, given);
-        are_nodes(rt, &mut told, bytes.as_slice());
-        ends(rt, told);
-    }
-}
-
-fn are_nodes(rt: &impl Abort, told: &mut &str, bytes: &[u8]) {
-    for node in device_path(bytes) {
-        match node {
-            Ok(node) => is_node(rt, told, node),
-            Err(fault) => is_path_fault(rt, told, fault),
+    fn ask<R: Abort>(rt: &R, given: &str, told: &mut &str) {
+        for node in device_path(made(rt, BYTES, given).as_slice()) {
+            is_node(rt, told, node);
         }
     }
 }
 
-fn is_node(rt: &impl Abort, told: &mut &str, node: DeviceNode<'_>) {
-    codes(rt, told, node.kind as u64);
-    codes(rt, told, node.subtype as u64);
-    has(rt, BYTES, told, node.value);
-}
-
-fn is_path_fault(rt: &impl Abort, told: &mut &str, fault: DevicePathFault) {
-    let name = match fault.kind {
-        DevicePathFaultKind::Truncated => "Truncated",
-        DevicePathFaultKind::NodeLength => "NodeLength",
-        DevicePathFaultKind::Behind => "Behind",
-        DevicePathFaultKind::NoEnd => "NoEnd",
-    };
-    names(rt, told, name);
-    counts(rt, told, fault.at as u64);
+fn is_node(rt: &impl Abort, told: &mut &str, node: Result<DeviceNode<'_>, DevicePathFault>) {
+    match node {
+        Ok(node) => {
+            let kind = Is::Code(node.kind as u64);
+            let subtype = Is::Code(node.subtype as u64);
+            tells(rt, BYTES, told, &[kind, subtype, Is::Bytes(node.value)]);
+        }
+        Err(fault) => faults(rt, told, fault.kind, fault.at as u64),
+    }
 }
 
 #[test]
-fn each_node_is_lent(rt: HostRuntime) {
+fn each_node_is_lent_and_the_first_fault_told(rt: HostRuntime) {
     rows::<Paths>(
         &rt,
         "
         PATH is 2 1 ACPI 1 1 001d 4 4 FILE 7f ff -
-        ",
-    );
-    holds(&rt, device_path(&[]).next().is_none(), "no byte");
-}
-
-// Nothing is told behind a fault.
-#[test]
-fn the_first_fault_of_a_path_is_told(rt: HostRuntime) {
-    rows::<Paths>(
-        &rt,
-        "
+        # Nothing is told behind a fault.
         PATH <47 is 2 1 ACPI 1 1 001d 4 4 FILE Truncated 44
         PATH <44 is 2 1 ACPI 1 1 001d NoEnd 44
         PATH <43 is 2 1 ACPI 1 1 001d NodeLength 20
@@ -83,44 +54,36 @@ fn the_first_fault_of_a_path_is_told(rt: HostRuntime) {
         PATH 00 is 2 1 ACPI 1 1 001d 4 4 FILE Behind 48
         ",
     );
+    holds(&rt, device_path(&[]).next().is_none(), "no byte");
 }
 
 struct Images;
 
 impl Asked for Images {
-    fn ask<R: Abort>(rt: &R, mut given: &str, mut told: &str) {
+    fn ask<R: Abort>(rt: &R, mut given: &str, told: &mut &str) {
         let kind = code(rt, word(&mut given));
         let bytes = made(rt, BYTES, given);
-        let event = Event {
-            register: 4,
-            kind,
-            digests: ArrayVec::new(),
-            event: bytes.as_slice(),
-        };
-        match event.image_load() {
-            Some(Ok(image)) => is_image(rt, &mut told, image),
-            Some(Err(fault)) => is_image_fault(rt, &mut told, fault),
-            None => names(rt, &mut told, "none"),
+        match event(rt, (4, kind), &[], bytes.as_slice()).image_load() {
+            Some(Ok(image)) => is_image(rt, told, &image),
+            Some(Err(fault)) => faults(rt, told, fault.kind, fault.at as u64),
+            None => names(rt, told, "none"),
         }
-        ends(rt, told);
     }
 }
 
-fn is_image(rt: &impl Abort, told: &mut &str, image: ImageLoad<'_>) {
-    codes(rt, told, image.address);
-    codes(rt, told, image.size);
-    codes(rt, told, image.link_address);
-    has(rt, BYTES, told, image.path);
-    has(rt, BYTES, told, image.rest);
-}
-
-fn is_image_fault(rt: &impl Abort, told: &mut &str, fault: ImageLoadFault) {
-    let name = match fault.kind {
-        ImageLoadFaultKind::Truncated => "Truncated",
-        ImageLoadFaultKind::PathLength => "PathLength",
-    };
-    names(rt, told, name);
-    counts(rt, told, fault.at as u64);
+fn is_image(rt: &impl Abort, told: &mut &str, image: &ImageLoad<'_>) {
+    tells(
+        rt,
+        BYTES,
+        told,
+        &[
+            Is::Code(image.address),
+            Is::Code(image.size),
+            Is::Code(image.link_address),
+            Is::Bytes(image.path),
+            Is::Bytes(image.rest),
+        ],
+    );
 }
 
 #[test]

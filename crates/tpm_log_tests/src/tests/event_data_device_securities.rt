@@ -1,11 +1,9 @@
 //! What devices say of themselves by SPDM. The bytes are those of Python's struct.
 
-use crate::tests::event_data_parts::is_fault;
-use crate::tests::rows::{Asked, code, codes, ends, has, made, names, rows};
-use arrayvec::ArrayVec;
+use crate::tests::rows::{Asked, Is, code, event, faults, made, names, rows, tells};
 use std::process::Abort;
 use std::test::*;
-use tpm_event_data::{DeviceEvidence, DeviceMeasurement, DeviceSecurity, Event};
+use tpm_event_data::{DeviceEvidence, DeviceMeasurement, DeviceSecurity};
 use tpm_testing::word;
 
 // FIRST is of version 1, of a device of PCI whose hash is 2: the block of the index 3, of DMTF, whose value of the
@@ -26,46 +24,59 @@ const BYTES: &str = "
 struct Devices;
 
 impl Asked for Devices {
-    fn ask<R: Abort>(rt: &R, mut given: &str, mut told: &str) {
+    fn ask<R: Abort>(rt: &R, mut given: &str, told: &mut &str) {
         let kind = code(rt, word(&mut given));
         let bytes = made(rt, BYTES, given);
-        let event = Event {
-            register: 2,
-            kind,
-            digests: ArrayVec::new(),
-            event: bytes.as_slice(),
-        };
-        match event.device_security() {
-            Some(Ok(DeviceSecurity::First(device))) => is_measured(rt, &mut told, device),
-            Some(Ok(DeviceSecurity::Second(device))) => is_evident(rt, &mut told, device),
-            Some(Err(fault)) => is_fault(rt, &mut told, fault),
-            None => names(rt, &mut told, "none"),
+        match event(rt, (2, kind), &[], bytes.as_slice()).device_security() {
+            Some(Ok(device)) => is_device(rt, told, &device),
+            Some(Err(fault)) => faults(rt, told, fault.kind, fault.at as u64),
+            None => names(rt, told, "none"),
         }
-        ends(rt, told);
     }
 }
 
-fn is_measured(rt: &impl Abort, told: &mut &str, device: DeviceMeasurement<'_>) {
-    names(rt, told, "first");
-    codes(rt, told, device.hash as u64);
-    codes(rt, told, device.device_type as u64);
-    has(rt, BYTES, told, device.block);
-    has(rt, BYTES, told, device.context);
+fn is_device(rt: &impl Abort, told: &mut &str, device: &DeviceSecurity<'_>) {
+    match device {
+        DeviceSecurity::First(device) => is_measured(rt, told, device),
+        DeviceSecurity::Second(device) => is_evident(rt, told, device),
+    }
 }
 
-fn is_evident(rt: &impl Abort, told: &mut &str, device: DeviceEvidence<'_>) {
-    names(rt, told, "second");
-    codes(rt, told, device.auth_state as u64);
-    codes(rt, told, device.device_type as u64);
-    codes(rt, told, device.sub_header_type as u64);
-    codes(rt, told, device.uid);
-    has(rt, BYTES, told, device.path);
-    has(rt, BYTES, told, device.sub_header);
-    has(rt, BYTES, told, device.context);
+fn is_measured(rt: &impl Abort, told: &mut &str, device: &DeviceMeasurement<'_>) {
+    tells(
+        rt,
+        BYTES,
+        told,
+        &[
+            Is::Name("first"),
+            Is::Code(device.hash as u64),
+            Is::Code(device.device_type as u64),
+            Is::Bytes(device.block),
+            Is::Bytes(device.context),
+        ],
+    );
+}
+
+fn is_evident(rt: &impl Abort, told: &mut &str, device: &DeviceEvidence<'_>) {
+    tells(
+        rt,
+        BYTES,
+        told,
+        &[
+            Is::Name("second"),
+            Is::Code(device.auth_state as u64),
+            Is::Code(device.device_type as u64),
+            Is::Code(device.sub_header_type as u64),
+            Is::Code(device.uid),
+            Is::Bytes(device.path),
+            Is::Bytes(device.sub_header),
+            Is::Bytes(device.context),
+        ],
+    );
 }
 
 #[test]
-fn the_first_fault_of_a_device_is_told(rt: HostRuntime) {
+fn what_devices_say_and_their_first_fault_are_told(rt: HostRuntime) {
     rows::<Devices>(
         &rt,
         "
@@ -93,15 +104,6 @@ fn the_first_fault_of_a_device_is_told(rt: HostRuntime) {
         800000e1 SECOND 51=80 is Length 44
         800000e1 SECOND 32=28 is Length 32
         800000e1 SECOND 44=27 is Length 32
-        ",
-    );
-}
-
-#[test]
-fn what_devices_say_is_lent(rt: HostRuntime) {
-    rows::<Devices>(
-        &rt,
-        "
         800000e1 FIRST is first 2 1 BLOCK CONTEXT
         800000e1 OTHER_BLOCK is first 0 0 040202001122 -
         800000e2 SECOND is second 0 1 0 102030405060708 PATH SUB_HEADER CONTEXT

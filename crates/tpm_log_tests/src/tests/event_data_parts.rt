@@ -1,13 +1,12 @@
 //! What events tell of partitions, of the firmware, of its tables, of tags and of boot variables. The bytes are those
 //! of Python's struct and uuid.
 
-use crate::tests::rows::{Asked, code, codes, counts, ends, has, made, may_have, names, rows};
-use arrayvec::ArrayVec;
+use crate::tests::rows::{Asked, Is, code, event, faults, made, names, or_none, rows, tells};
 use std::process::Abort;
 use std::test::*;
 use tpm_event_data::{
-    Event, EventDataFault, EventDataFaultKind, FirmwareBlob, HandoffTable, HandoffTables,
-    LoadOption, Partition, PartitionTable, TaggedEvent, Variable, load_option,
+    Event, EventDataFault, FirmwareBlob, HandoffTable, HandoffTables, LoadOption, Partition,
+    PartitionTable, TaggedEvent, Variable, load_option,
 };
 use tpm_testing::word;
 
@@ -51,131 +50,98 @@ const BYTES: &str = "
 struct Events;
 
 impl Asked for Events {
-    fn ask<R: Abort>(rt: &R, mut given: &str, mut told: &str) {
+    fn ask<R: Abort>(rt: &R, mut given: &str, told: &mut &str) {
         let kind = code(rt, word(&mut given));
         let bytes = made(rt, BYTES, given);
-        let event = Event {
-            register: 5,
-            kind,
-            digests: ArrayVec::new(),
-            event: bytes.as_slice(),
-        };
-        is_first(rt, &mut told, &event);
-        ends(rt, told);
+        if let Err(fault) = is_first(rt, told, &event(rt, (5, kind), &[], bytes.as_slice())) {
+            faults(rt, told, fault.kind, fault.at as u64);
+        }
     }
 }
 
-// The one structure that the event has.
-fn is_first(rt: &impl Abort, told: &mut &str, event: &Event<'_>) {
+// The one structure that the event has, or its fault.
+fn is_first(rt: &impl Abort, told: &mut &str, event: &Event<'_>) -> Result<(), EventDataFault> {
     if let Some(read) = event.partition_table() {
-        are_partitions(rt, told, read);
+        are_partitions(rt, told, &read?);
     } else if let Some(read) = event.firmware_blob() {
-        is_blob(rt, told, read);
-    } else if let Some(read) = event.handoff_tables() {
-        are_tables(rt, told, read);
+        is_blob(rt, told, &read?);
+    } else {
+        return is_second(rt, told, event);
+    }
+    Ok(())
+}
+
+fn is_second(rt: &impl Abort, told: &mut &str, event: &Event<'_>) -> Result<(), EventDataFault> {
+    if let Some(read) = event.handoff_tables() {
+        are_tables(rt, told, &read?);
     } else if let Some(read) = event.tagged_event() {
-        is_tag(rt, told, read);
+        is_tag(rt, told, &read?);
     } else {
         names(rt, told, "none");
     }
+    Ok(())
 }
 
-pub(crate) fn is_fault(rt: &impl Abort, told: &mut &str, fault: EventDataFault) {
-    let name = match fault.kind {
-        EventDataFaultKind::Truncated => "Truncated",
-        EventDataFaultKind::Signature => "Signature",
-        EventDataFaultKind::Version => "Version",
-        EventDataFaultKind::EntrySize => "EntrySize",
-        EventDataFaultKind::Length => "Length",
-        EventDataFaultKind::NoEnd => "NoEnd",
-        EventDataFaultKind::Behind => "Behind",
-    };
-    names(rt, told, name);
-    counts(rt, told, fault.at as u64);
-}
-
-fn are_partitions(
-    rt: &impl Abort,
-    told: &mut &str,
-    read: Result<PartitionTable<'_>, EventDataFault>,
-) {
-    match read {
-        Err(fault) => is_fault(rt, told, fault),
-        Ok(table) => {
-            has(rt, BYTES, told, table.disk);
-            counts(rt, told, table.size as u64);
-            counts(rt, told, table.count() as u64);
-            for which in 0..table.count() {
-                is_partition(rt, told, table.get(which));
-            }
-            is_partition(rt, told, table.get(table.count()));
-        }
+fn are_partitions(rt: &impl Abort, told: &mut &str, table: &PartitionTable<'_>) {
+    let (size, count) = (
+        Is::Count(table.size as u64),
+        Is::Count(table.count() as u64),
+    );
+    tells(rt, BYTES, told, &[Is::Bytes(table.disk), size, count]);
+    for which in 0..table.count() {
+        is_partition(rt, told, table.get(which));
     }
+    is_partition(rt, told, table.get(table.count()));
 }
 
 fn is_partition(rt: &impl Abort, told: &mut &str, partition: Option<Partition<'_>>) {
     match partition {
         None => names(rt, told, "none"),
-        Some(partition) => {
-            has(rt, BYTES, told, partition.kind);
-            has(rt, BYTES, told, partition.guid);
-            counts(rt, told, partition.first);
-            counts(rt, told, partition.last);
-            codes(rt, told, partition.attributes);
-            has(rt, BYTES, told, partition.name);
-        }
+        Some(partition) => tells(
+            rt,
+            BYTES,
+            told,
+            &[
+                Is::Bytes(partition.kind),
+                Is::Bytes(partition.guid),
+                Is::Count(partition.first),
+                Is::Count(partition.last),
+                Is::Code(partition.attributes),
+                Is::Bytes(partition.name),
+            ],
+        ),
     }
 }
 
-fn is_blob(rt: &impl Abort, told: &mut &str, read: Result<FirmwareBlob<'_>, EventDataFault>) {
-    match read {
-        Err(fault) => is_fault(rt, told, fault),
-        Ok(blob) => {
-            codes(rt, told, blob.base);
-            codes(rt, told, blob.size);
-            has(rt, BYTES, told, blob.name);
-        }
-    }
+fn is_blob(rt: &impl Abort, told: &mut &str, blob: &FirmwareBlob<'_>) {
+    let (base, size) = (Is::Code(blob.base), Is::Code(blob.size));
+    tells(rt, BYTES, told, &[base, size, Is::Bytes(blob.name)]);
 }
 
-fn are_tables(rt: &impl Abort, told: &mut &str, read: Result<HandoffTables<'_>, EventDataFault>) {
-    match read {
-        Err(fault) => is_fault(rt, told, fault),
-        Ok(tables) => {
-            has(rt, BYTES, told, tables.name);
-            counts(rt, told, tables.count() as u64);
-            for which in 0..tables.count() {
-                is_table(rt, told, tables.get(which));
-            }
-            is_table(rt, told, tables.get(tables.count()));
-        }
+fn are_tables(rt: &impl Abort, told: &mut &str, tables: &HandoffTables<'_>) {
+    let count = Is::Count(tables.count() as u64);
+    tells(rt, BYTES, told, &[Is::Bytes(tables.name), count]);
+    for which in 0..tables.count() {
+        is_table(rt, told, tables.get(which));
     }
+    is_table(rt, told, tables.get(tables.count()));
 }
 
 fn is_table(rt: &impl Abort, told: &mut &str, table: Option<HandoffTable<'_>>) {
     match table {
         None => names(rt, told, "none"),
-        Some(table) => {
-            has(rt, BYTES, told, table.guid);
-            codes(rt, told, table.address);
-        }
+        Some(it) => tells(rt, BYTES, told, &[Is::Bytes(it.guid), Is::Code(it.address)]),
     }
 }
 
-fn is_tag(rt: &impl Abort, told: &mut &str, read: Result<TaggedEvent<'_>, EventDataFault>) {
-    match read {
-        Err(fault) => is_fault(rt, told, fault),
-        Ok(tag) => {
-            codes(rt, told, tag.id as u64);
-            has(rt, BYTES, told, tag.value);
-            may_have(rt, BYTES, told, tag.text());
-            may_have(rt, BYTES, told, tag.text_units());
-        }
-    }
+fn is_tag(rt: &impl Abort, told: &mut &str, tag: &TaggedEvent<'_>) {
+    let (id, value) = (Is::Code(tag.id as u64), Is::Bytes(tag.value));
+    let texts = (or_none(tag.text()), or_none(tag.text_units()));
+    tells(rt, BYTES, told, &[id, value, texts.0, texts.1]);
 }
 
 #[test]
-fn the_first_fault_is_told(rt: HostRuntime) {
+fn what_events_have_and_their_first_fault_are_told(rt: HostRuntime) {
     rows::<Events>(
         &rt,
         "
@@ -203,42 +169,16 @@ fn the_first_fault_is_told(rt: HostRuntime) {
         6 TAG 0=00 <20 is Length 4
         6 TAG 7=01 is Length 4
         d - is none
-        ",
-    );
-}
-
-#[test]
-fn partitions_are_lent(rt: HostRuntime) {
-    rows::<Events>(
-        &rt,
-        "
+        # Partitions, firmware and its tables, and tags
         80000006 TABLE is DISK 128 2 EFI EFI_GUID 2048 1050623 1 EFI_NAME LINUX LINUX_GUID 1050624 5000000 0 XS none
         80000006 WIDE_TABLE is DISK 256 1 EFI EFI_GUID 2048 1050623 1 EFI_NAME none
         d TABLE is none
-        ",
-    );
-}
-
-#[test]
-fn firmware_and_its_tables_are_lent(rt: HostRuntime) {
-    rows::<Events>(
-        &rt,
-        "
         80000008 BLOB is ffc00000 40000 -
         1 BLOB is ffc00000 40000 -
         7 NAMED_BLOB is ffc00000 40000 POST_CODE
         8000000a NAMED_BLOB is ffc00000 40000 POST_CODE
         80000009 TABLES is - 2 SMBIOS 7f000000 ACPI 100001000 none
         8000000b NAMED_TABLES is 534d42494f53 2 SMBIOS 7f000000 ACPI 100001000 none
-        ",
-    );
-}
-
-#[test]
-fn tags_are_told(rt: HostRuntime) {
-    rows::<Events>(
-        &rt,
-        "
         6 TAG is 8f3b22ec INITRD_AND_ZERO INITRD none
         6 TAG_IN_UTF_16 is 1 QUIET_AND_ZERO none QUIET
         ",
@@ -249,7 +189,7 @@ fn tags_are_told(rt: HostRuntime) {
 struct Variables;
 
 impl Asked for Variables {
-    fn ask<R: Abort>(rt: &R, mut given: &str, mut told: &str) {
+    fn ask<R: Abort>(rt: &R, mut given: &str, told: &mut &str) {
         let guid = made(rt, BYTES, word(&mut given));
         let name = made(rt, BYTES, word(&mut given));
         let value = made(rt, BYTES, given);
@@ -258,23 +198,31 @@ impl Asked for Variables {
             name: name.as_slice(),
             value: value.as_slice(),
         };
-        match variable.load_option() {
-            Some(read) => is_option(rt, &mut told, read),
-            None => may_have(rt, BYTES, &mut told, variable.boot_order()),
-        }
-        ends(rt, told);
+        is_boot(rt, told, &variable);
+    }
+}
+
+fn is_boot(rt: &impl Abort, told: &mut &str, variable: &Variable<'_>) {
+    match variable.load_option() {
+        Some(read) => is_option(rt, told, read),
+        None => tells(rt, BYTES, told, &[or_none(variable.boot_order())]),
     }
 }
 
 fn is_option(rt: &impl Abort, told: &mut &str, read: Result<LoadOption<'_>, EventDataFault>) {
     match read {
-        Err(fault) => is_fault(rt, told, fault),
-        Ok(option) => {
-            codes(rt, told, option.attributes as u64);
-            has(rt, BYTES, told, option.description);
-            has(rt, BYTES, told, option.path);
-            has(rt, BYTES, told, option.value);
-        }
+        Err(fault) => faults(rt, told, fault.kind, fault.at as u64),
+        Ok(option) => tells(
+            rt,
+            BYTES,
+            told,
+            &[
+                Is::Code(option.attributes as u64),
+                Is::Bytes(option.description),
+                Is::Bytes(option.path),
+                Is::Bytes(option.value),
+            ],
+        ),
     }
 }
 
@@ -306,13 +254,8 @@ fn boot_variables_are_told(rt: HostRuntime) {
 struct Options;
 
 impl Asked for Options {
-    fn ask<R: Abort>(rt: &R, given: &str, mut told: &str) {
-        is_option(
-            rt,
-            &mut told,
-            load_option(made(rt, BYTES, given).as_slice()),
-        );
-        ends(rt, told);
+    fn ask<R: Abort>(rt: &R, given: &str, told: &mut &str) {
+        is_option(rt, told, load_option(made(rt, BYTES, given).as_slice()));
     }
 }
 

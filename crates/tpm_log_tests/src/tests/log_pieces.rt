@@ -1,7 +1,7 @@
 //! Logs that are fed in pieces.
 
 use crate::tests::log_parsed::{LOGS, have, is_fault};
-use crate::tests::rows::{Asked, ends, holds, made, number, rows};
+use crate::tests::rows::{Asked, holds, made, number, rows};
 use std::process::Abort;
 use std::test::*;
 use tpm_log::{LogFault, LogReplay, replay_into};
@@ -31,10 +31,7 @@ pub(crate) fn fed_in_two(log: &[u8], at: usize) -> Result<Registers, LogFault> {
 pub(crate) fn has_fault<T: Drop>(rt: &impl Abort, answer: Result<T, LogFault>, mut told: &str) {
     match answer {
         Ok(_) => panic!(rt; "{told}"),
-        Err(fault) => {
-            is_fault(rt, &mut told, fault);
-            ends(rt, told);
-        }
+        Err(fault) => is_fault(rt, &mut told, fault),
     }
 }
 
@@ -122,12 +119,13 @@ const LONG_HEADER: &str = "HEADER 28=e8 29=03";
 struct AtEnd;
 
 impl Asked for AtEnd {
-    fn ask<R: Abort>(rt: &R, given: &str, told: &str) {
+    fn ask<R: Abort>(rt: &R, given: &str, told: &mut &str) {
         let mut replay = behind(rt, LONG_HEADER);
         for _ in 0..number(rt, given) {
             let _ = replay.feed(&[0]);
         }
         has_fault(rt, replay.end(), told);
+        *told = "";
     }
 }
 
@@ -152,13 +150,14 @@ fn a_long_header_has_its_fault_at_its_end(rt: HostRuntime) {
 struct InTime;
 
 impl Asked for InTime {
-    fn ask<R: Abort>(rt: &R, mut given: &str, told: &str) {
+    fn ask<R: Abort>(rt: &R, mut given: &str, told: &mut &str) {
         let shown = number(rt, word(&mut given)) as usize;
         let bytes = made(rt, LOGS, given);
         for cut in 0..bytes.len().saturating_add(1) {
             in_two(rt, bytes.as_slice(), cut, shown, told);
         }
         by_bytes(rt, bytes.as_slice(), shown, told);
+        *told = "";
     }
 }
 

@@ -17,17 +17,13 @@ const SEPARATED: &str = "0004 7 b2a83b0ebf2f8374299a5b2bdfc31ea955ad7236";
 // Where the read with this number fails, no registers are answered, and no other fault; and no read is tried again.
 fn fails_at(rt: &impl Abort, log: &[u8], number: usize) {
     let mut reader = Pieces::failing(log, 1, number);
-    match replay_from(&mut reader) {
-        Ok(_) => holds(rt, false, "a read that fails"),
-        Err(fault) => {
-            holds(rt, fault.kind == LogFaultKind::Device, "the kind");
-            holds(
-                rt,
-                fault.at as usize == number.saturating_sub(1),
-                "the place",
-            );
-        }
-    }
+    let fault = replay_from(&mut reader).err().expect(rt, "a fault");
+    holds(rt, fault.kind == LogFaultKind::Device, "the kind");
+    holds(
+        rt,
+        fault.at as usize == number.saturating_sub(1),
+        "the place",
+    );
     holds(rt, reader.reads == number, "the reads");
 }
 
@@ -44,10 +40,8 @@ fn a_read_that_fails_is_answered(rt: HostRuntime) {
 // It is taken for the end, and no read comes behind it.
 fn pauses_at(rt: &impl Abort, log: &[u8], number: usize) {
     let mut reader = Pieces::pausing(log, 32, number);
-    match replay_from(&mut reader) {
-        Ok(_) => holds(rt, false, "a read that gives no bytes"),
-        Err(fault) => holds(rt, fault.kind == LogFaultKind::Truncated, "the kind"),
-    }
+    let fault = replay_from(&mut reader).err().expect(rt, "a fault");
+    holds(rt, fault.kind == LogFaultKind::Truncated, "the kind");
     holds(rt, reader.reads == number, "the reads");
 }
 

@@ -2,7 +2,7 @@
 //! -m` wrote of them. Their signatures are those of the keys in checks/quotes.
 
 use crate::tests::quote_quotes::{are_selected, is_refusal};
-use crate::tests::rows::{Asked, codes, counts, ends, has, hash, holds, made, names, rows};
+use crate::tests::rows::{Asked, Is, hash, holds, made, names, rows, tells};
 use std::process::Abort;
 use std::test::*;
 use tpm_boot_laws::boot_to_quote;
@@ -16,7 +16,7 @@ use tpm_quote::{
 use tpm_testing::word;
 use tpm_types::{Alg, Attest, ClockInfo, Lent, Selection, Selections};
 use tpm_vouched::laws::records_of_the_quote;
-use tpm_wire::Buffer;
+use tpm_wire::{Buffer, Refusal};
 
 // SENT is the nonce that was sent for each quote. NOT_MEASURED is of registers 10 to 12, which no record of its log
 // extends, signed under SHA-256; RSA_SHA1 of registers 0 to 7 of SHA-1, signed under SHA-1; TWO_BANKS of registers 0
@@ -144,33 +144,41 @@ const END: usize = 121;
 struct Attests;
 
 impl Asked for Attests {
-    fn ask<R: Abort>(rt: &R, given: &str, mut told: &str) {
+    fn ask<R: Abort>(rt: &R, given: &str, told: &mut &str) {
         let bytes = made(rt, BYTES, given);
         match decode_attest(bytes.as_slice()) {
             Ok(attest) => {
-                has_parts(rt, &mut told, &attest);
+                has_parts(rt, told, &attest);
                 is_spelled(rt, &attest, bytes.as_slice());
             }
-            Err(refusal) => is_refusal(rt, &mut told, refusal),
+            Err(refusal) => is_refusal(rt, told, refusal),
         }
-        ends(rt, told);
     }
 }
 
 fn has_parts(rt: &impl Abort, told: &mut &str, attest: &Attest<'_>) {
-    has(rt, BYTES, told, attest.signer.as_slice());
-    has(rt, BYTES, told, attest.extra_data.as_slice());
-    is_clock(rt, told, &attest.clock_info);
-    codes(rt, told, attest.firmware_version);
+    let clock_info = &attest.clock_info;
+    tells(
+        rt,
+        BYTES,
+        told,
+        &[
+            Is::Bytes(attest.signer.as_slice()),
+            Is::Bytes(attest.extra_data.as_slice()),
+            Is::Code(clock_info.clock),
+            Is::Count(clock_info.reset_count as u64),
+            Is::Count(clock_info.restart_count as u64),
+            Is::Name(if clock_info.safe { "safe" } else { "unsafe" }),
+            Is::Code(attest.firmware_version),
+        ],
+    );
     are_selected(rt, told, attest.quote.selections.as_slice());
-    has(rt, BYTES, told, attest.quote.digest.as_slice());
-}
-
-fn is_clock(rt: &impl Abort, told: &mut &str, clock_info: &ClockInfo) {
-    codes(rt, told, clock_info.clock);
-    counts(rt, told, clock_info.reset_count as u64);
-    counts(rt, told, clock_info.restart_count as u64);
-    names(rt, told, if clock_info.safe { "safe" } else { "unsafe" });
+    tells(
+        rt,
+        BYTES,
+        told,
+        &[Is::Bytes(attest.quote.digest.as_slice())],
+    );
 }
 
 fn is_spelled(rt: &impl Abort, attest: &Attest<'_>, bytes: &[u8]) {
@@ -189,6 +197,22 @@ fn each_part_of_a_quote_is_decoded_and_put_back(rt: HostRuntime) {
         RSA_SHA1 is SIGNER SENT 49c 1 0 safe 2019102300163636 4 ff0000 e215d07ab7586c5886cb9f004151306057d0de8f
         NOT_MEASURED is OTHER_SIGNER SENT 357 1 0 safe 2019102300163636 b 001c00 OTHER_DIGEST
         RSA_SHA1 80=00 is SIGNER SENT 49c 1 0 unsafe 2019102300163636 4 ff0000 e215d07ab7586c5886cb9f004151306057d0de8f
+        # Bytes that are no quote have a fault: a byte behind it
+        RSA_SHA1 00 is refused 95 121
+        # another magic, and the type of a certification
+        RSA_SHA1 3=46 is refused 84 0
+        RSA_SHA1 0=fe is refused 84 0
+        RSA_SHA1 5=17 is refused 84 4
+        RSA_SHA1 5=14 is refused 84 4
+        # a Name and a nonce of 67 bytes
+        RSA_SHA1 7=43 is refused 95 6
+        RSA_SHA1 43=43 is refused 95 42
+        # neither safe nor unsafe
+        RSA_SHA1 80=02 is refused 84 80
+        RSA_SHA1 80=ff is refused 84 80
+        # the information of a quote, which is judged as it is alone
+        RSA_SHA1 92=04 is refused 95 89
+        RSA_SHA1 95=04 is refused 84 95
         ",
     );
     attest_or_fault();
@@ -220,13 +244,6 @@ fn a_quote_is_spelled_from_its_parts(rt: HostRuntime) {
     );
 }
 
-fn refuses(rt: &impl Abort, bytes: &[u8], mut told: &str) {
-    match decode_attest(bytes) {
-        Ok(_) => panic!(rt; "{told}"),
-        Err(refusal) => is_refusal(rt, &mut told, refusal),
-    }
-}
-
 // Where the last token begins that begins within so many bytes.
 fn token_at(end: usize) -> u32 {
     let mut at = 0;
@@ -245,41 +262,14 @@ fn a_quote_that_is_cut_has_a_fault(rt: HostRuntime) {
     holds(&rt, bytes.len() == END, "its length");
     for end in 0..END {
         let (front, _) = bytes.as_slice().split_at(end.min(bytes.len()));
-        match decode_attest(front) {
-            Ok(_) => holds(&rt, false, "a quote that is cut"),
-            Err(fault) => holds(
-                &rt,
-                (fault.code, fault.at) == (0x9A, token_at(end)),
-                "its fault",
-            ),
-        }
+        let fault = Refusal {
+            code: 0x9A,
+            at: token_at(end),
+        };
+        holds(&rt, decode_attest(front).err() == Some(fault), "its fault");
     }
-    refuses(&rt, &[0xff; 5000], "refused 84 0");
-}
-
-#[test]
-fn bytes_that_are_no_quote_have_a_fault(rt: HostRuntime) {
-    rows::<Attests>(
-        &rt,
-        "
-        # a byte behind it
-        RSA_SHA1 00 is refused 95 121
-        # another magic, and the type of a certification
-        RSA_SHA1 3=46 is refused 84 0
-        RSA_SHA1 0=fe is refused 84 0
-        RSA_SHA1 5=17 is refused 84 4
-        RSA_SHA1 5=14 is refused 84 4
-        # a Name and a nonce of 67 bytes
-        RSA_SHA1 7=43 is refused 95 6
-        RSA_SHA1 43=43 is refused 95 42
-        # neither safe nor unsafe
-        RSA_SHA1 80=02 is refused 84 80
-        RSA_SHA1 80=ff is refused 84 80
-        # the information of a quote, which is judged as it is alone
-        RSA_SHA1 92=04 is refused 95 89
-        RSA_SHA1 95=04 is refused 84 95
-        ",
-    );
+    let found = decode_attest(&[0xff; 5000]).err();
+    holds(&rt, found == Some(Refusal { code: 0x84, at: 0 }), "ones");
 }
 
 // These registers of a bank, and of no other; or of none.
@@ -294,20 +284,21 @@ fn required(rt: &impl Abort, hash: Alg, text: &str) -> Selections {
 }
 
 fn registers_after(rt: &impl Abort, log: &str) -> Registers {
-    match log {
-        "SEABIOS" => replay(made(rt, "", SEABIOS).as_slice())
-            .ok()
-            .expect(rt, log),
-        "OVMF" => replay(made(rt, "", OVMF).as_slice()).ok().expect(rt, log),
-        _ => Registers::new(),
-    }
+    let records = match log {
+        "SEABIOS" => SEABIOS,
+        "OVMF" => OVMF,
+        _ => return Registers::new(),
+    };
+    replay(made(rt, "", records).as_slice())
+        .ok()
+        .expect(rt, log)
 }
 
 // A log, the hash of the signature, the nonce, what registers of which bank are required, and a quote.
 struct Answers;
 
 impl Asked for Answers {
-    fn ask<R: Abort>(rt: &R, mut given: &str, mut told: &str) {
+    fn ask<R: Abort>(rt: &R, mut given: &str, told: &mut &str) {
         let registers = registers_after(rt, word(&mut given));
         let by = hash(rt, word(&mut given));
         let nonce = made(rt, BYTES, word(&mut given));
@@ -316,25 +307,30 @@ impl Asked for Answers {
         let bytes = made(rt, BYTES, given);
         let attest = decode_attest(bytes.as_slice()).ok().expect(rt, given);
         let answer = check_attest(&registers, &attest, by, nonce.as_slice(), &required);
-        is_answer(rt, &mut told, answer);
+        is_answer(rt, told, answer);
         let says_nonce = !nonce_matches(&attest, nonce.as_slice());
         holds(rt, says_nonce == (answer == Err(AttestFault::Nonce)), given);
-        ends(rt, told);
     }
 }
 
 fn is_answer(rt: &impl Abort, told: &mut &str, answer: Result<(), AttestFault>) {
-    match answer {
-        Ok(()) => names(rt, told, "right"),
-        Err(AttestFault::Nonce) => names(rt, told, "nonce"),
-        Err(AttestFault::Digest) => names(rt, told, "digest"),
-        Err(AttestFault::NotSelected(missing)) => lacks(rt, told, missing),
-    }
+    let name = match answer {
+        Ok(()) => "right",
+        Err(AttestFault::Nonce) => "nonce",
+        Err(AttestFault::Digest) => "digest",
+        Err(AttestFault::NotSelected(missing)) => return lacks(rt, told, missing),
+    };
+    names(rt, told, name);
 }
 
-fn lacks(rt: &impl Abort, told: &mut &str, missing: NotSelected) {
-    codes(rt, told, missing.bank.number() as u64);
-    counts(rt, told, missing.register.number() as u64);
+pub(crate) fn lacks(rt: &impl Abort, told: &mut &str, missing: NotSelected) {
+    let bank = Is::Code(missing.bank.number() as u64);
+    tells(
+        rt,
+        "",
+        told,
+        &[bank, Is::Count(missing.register.number() as u64)],
+    );
 }
 
 #[test]
@@ -348,32 +344,13 @@ fn a_quote_of_the_registers_after_its_log_is_the_one_that_was_asked_for(rt: Host
         SEABIOS 0004 SENT 0004 ff0000 RSA_SHA1 is digest
         OVMF 000b SENT 0004 ff0000 RSA_SHA1 is digest
         OVMF 0004 SENT 0004 ff0000 RSA_SHA1 120=8e is digest
-        ",
-    );
-    boot_to_quote();
-    records_of_the_quote();
-}
-
-#[test]
-fn another_nonce_comes_first(rt: HostRuntime) {
-    rows::<Answers>(
-        &rt,
-        "
+        # Another nonce comes first.
         SEABIOS 0004 - 000c 000001 RSA_SHA1 is nonce
         SEABIOS 0004 c0ffee00000000000000000000000000000000 000c 000001 RSA_SHA1 is nonce
         SEABIOS 0004 c0ffee000000000000000000000000000000000000 000c 000001 RSA_SHA1 is nonce
         SEABIOS 0004 c0ffee0000000000000000000000000000000001 000c 000001 RSA_SHA1 is nonce
         SEABIOS 0004 c1ffee0000000000000000000000000000000000 000c 000001 RSA_SHA1 is nonce
-        ",
-    );
-}
-
-#[test]
-fn each_required_register_has_to_be_selected(rt: HostRuntime) {
-    rows::<Answers>(
-        &rt,
-        "
-        # 0 to 7, of which 1 comes first
+        # Each required register has to be selected: 0 to 7, of which 1 comes first
         none 000b SENT 000b ff0000 TWO_BANKS is b 1
         none 000b SENT 0004 810080 TWO_BANKS is 4 23
         # a bank that is not quoted
@@ -381,19 +358,17 @@ fn each_required_register_has_to_be_selected(rt: HostRuntime) {
         # What is selected may be more than what is required; the digest is judged after it.
         none 000b SENT 0004 800000 TWO_BANKS is digest
         none 000b SENT 000b 800000 ALL is digest
-        ",
-    );
-}
-
-#[test]
-fn a_quote_of_no_register_covers_nothing(rt: HostRuntime) {
-    rows::<Answers>(
-        &rt,
-        "
+        # A quote of no register covers nothing.
         none 000b SENT 000b 010000 ALL <89 NOTHING is b 0
         none 000b SENT 000b - ALL <89 NOTHING is right
         ",
     );
+    boot_to_quote();
+    records_of_the_quote();
+}
+
+#[test]
+fn a_quote_of_no_register_selects_none(rt: HostRuntime) {
     let bytes = made(&rt, BYTES, "ALL <89 NOTHING");
     let attest = decode_attest(bytes.as_slice()).ok().expect(&rt, "a quote");
     holds(
@@ -413,10 +388,6 @@ fn a_quote_of_no_register_covers_nothing(rt: HostRuntime) {
         first_not_selected(&nothing, &nothing).is_none(),
         "of nothing",
     );
-    let mut told = "b 0";
-    lacks(
-        &rt,
-        &mut told,
-        first_not_selected(&nothing, &one).expect(&rt, "a register"),
-    );
+    let missing = first_not_selected(&nothing, &one).expect(&rt, "a register");
+    lacks(&rt, &mut "b 0", missing);
 }

@@ -1,11 +1,10 @@
 //! Quotes from their bytes, beside the registers after a log.
 
 use crate::tests::log_parsed::LOGS;
-use crate::tests::rows::{Asked, codes, counts, ends, has, hash, holds, made, names, rows};
+use crate::tests::rows::{Asked, Is, hash, holds, made, prints, rows, tells};
 use std::process::Abort;
 use std::test::*;
-use tpm_log::replay_into;
-use tpm_pcr::Registers;
+use tpm_log::replay;
 use tpm_quote::{check_quote, decode_quote};
 use tpm_testing::word;
 use tpm_types::Selection;
@@ -20,31 +19,28 @@ const BYTES: &str = "
 
 // A code, and its place.
 pub(crate) fn is_refusal(rt: &impl Abort, told: &mut &str, refusal: Refusal) {
-    names(rt, told, "refused");
-    codes(rt, told, refusal.code as u64);
-    counts(rt, told, refusal.at as u64);
+    let (code, at) = (Is::Code(refusal.code as u64), Is::Count(refusal.at as u64));
+    tells(rt, "", told, &[Is::Name("refused"), code, at]);
 }
 
 pub(crate) fn are_selected(rt: &impl Abort, told: &mut &str, selections: &[Selection]) {
     for selection in selections {
-        codes(rt, told, selection.hash.number() as u64);
-        has(rt, "", told, selection.select.as_slice());
+        let hash = Is::Code(selection.hash.number() as u64);
+        tells(rt, "", told, &[hash, Is::Bytes(&selection.select)]);
     }
 }
 
 struct Quotes;
 
 impl Asked for Quotes {
-    fn ask<R: Abort>(rt: &R, given: &str, mut told: &str) {
-        let bytes = made(rt, BYTES, given);
-        match decode_quote(bytes.as_slice()) {
+    fn ask<R: Abort>(rt: &R, given: &str, told: &mut &str) {
+        match decode_quote(made(rt, BYTES, given).as_slice()) {
             Ok(quote) => {
-                are_selected(rt, &mut told, quote.selections.as_slice());
-                has(rt, BYTES, &mut told, quote.digest.as_slice());
+                are_selected(rt, told, quote.selections.as_slice());
+                tells(rt, BYTES, told, &[Is::Bytes(quote.digest.as_slice())]);
             }
-            Err(refusal) => is_refusal(rt, &mut told, refusal),
+            Err(refusal) => is_refusal(rt, told, refusal),
         }
-        ends(rt, told);
     }
 }
 
@@ -70,43 +66,28 @@ fn a_quote_is_decoded(rt: HostRuntime) {
     );
 }
 
-fn refuses(rt: &impl Abort, bytes: &[u8], mut told: &str) {
-    match decode_quote(bytes) {
-        Ok(_) => panic!(rt; "{told}"),
-        Err(refusal) => is_refusal(rt, &mut told, refusal),
-    }
-}
-
 // No entry and an empty digest, and more behind it than a buffer has.
 #[test]
 fn more_than_a_buffer_has_is_refused(rt: HostRuntime) {
-    refuses(&rt, &[0; 5000], "refused 95 6");
-    refuses(&rt, &[0xff; 5000], "refused 95 0");
+    let zeros = decode_quote(&[0; 5000]).err();
+    let ones = decode_quote(&[0xff; 5000]).err();
+    holds(&rt, zeros == Some(Refusal { code: 0x95, at: 6 }), "zeros");
+    holds(&rt, ones == Some(Refusal { code: 0x95, at: 0 }), "ones");
 }
 
 // A log, a hash, and a quote.
 struct Beside;
 
 impl Asked for Beside {
-    fn ask<R: Abort>(rt: &R, mut given: &str, mut told: &str) {
-        let mut registers = Registers::new();
+    fn ask<R: Abort>(rt: &R, mut given: &str, told: &mut &str) {
         let log = made(rt, LOGS, word(&mut given));
-        holds(
-            rt,
-            replay_into(log.as_slice(), &mut registers).is_ok(),
-            given,
-        );
+        let registers = replay(log.as_slice()).ok().expect(rt, given);
         let hash = hash(rt, word(&mut given));
         match decode_quote(made(rt, BYTES, given).as_slice()) {
-            Ok(quote) => matches(rt, &mut told, check_quote(&registers, &quote, hash)),
-            Err(refusal) => is_refusal(rt, &mut told, refusal),
+            Ok(quote) => prints(rt, told, check_quote(&registers, &quote, hash)),
+            Err(refusal) => is_refusal(rt, told, refusal),
         }
-        ends(rt, told);
     }
-}
-
-fn matches(rt: &impl Abort, told: &mut &str, is_right: bool) {
-    names(rt, told, if is_right { "right" } else { "wrong" });
 }
 
 #[test]
@@ -114,12 +95,12 @@ fn a_quote_of_the_registers_after_a_log_matches(rt: HostRuntime) {
     rows::<Beside>(
         &rt,
         "
-        ORDER 000b QUOTE is right
-        ORDER 000c QUOTE is wrong
-        HEADER 000b QUOTE is wrong
+        ORDER 000b QUOTE is true
+        ORDER 000c QUOTE is false
+        HEADER 000b QUOTE is false
         # another register, and another digest
-        ORDER 000b QUOTE 9=40 is wrong
-        ORDER 000b QUOTE 43=51 is wrong
+        ORDER 000b QUOTE 9=40 is false
+        ORDER 000b QUOTE 43=51 is false
         ",
     );
 }

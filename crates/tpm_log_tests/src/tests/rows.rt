@@ -1,16 +1,19 @@
 //! Rows of text. A row asks ` is `: what stands before it is given, and the words behind it are what is told, each
 //! checked in its turn. A line that begins with `#` says what the next is about.
 
+use arrayvec::{ArrayString, ArrayVec};
+use std::fmt::{Debug, Write};
 use std::process::Abort;
 use std::test::*;
+use tpm_event_data::Event;
 use tpm_testing::word;
 use tpm_types::Alg;
 use tpm_wire::Buffer;
 
 /// What is asked of a row.
 pub(crate) trait Asked {
-    /// What was given is told in these words.
-    fn ask<R: Abort>(rt: &R, given: &str, told: &str);
+    /// What was given is told in these words, which are all taken.
+    fn ask<R: Abort>(rt: &R, given: &str, told: &mut &str);
 }
 
 /// Asks each row of these lines.
@@ -18,10 +21,15 @@ pub(crate) fn rows<T: Asked>(rt: &impl Abort, lines: &str) {
     for line in lines.lines() {
         let line = line.trim();
         match line.split_once(" is ") {
-            Some((given, told)) if !line.starts_with('#') => T::ask(rt, given, told),
+            Some((given, told)) if !line.starts_with('#') => asks::<T>(rt, given, told),
             _ => holds(rt, line.is_empty() || line.starts_with('#'), line),
         }
     }
+}
+
+fn asks<T: Asked>(rt: &impl Abort, given: &str, mut told: &str) {
+    T::ask(rt, given, &mut told);
+    holds(rt, told.is_empty(), told);
 }
 
 /// It holds of this.
@@ -98,52 +106,80 @@ pub(crate) fn made(rt: &impl Abort, table: &str, words: &str) -> Buffer {
     out
 }
 
+/// A record of this register and this type, with these digests and these data.
+pub(crate) fn event<'a>(
+    rt: &impl Abort,
+    register_and_kind: (u32, u32),
+    digests: &[(u16, &'a [u8])],
+    event: &'a [u8],
+) -> Event<'a> {
+    let mut all = ArrayVec::new();
+    holds(rt, all.try_extend_from_slice(digests).is_ok(), "digests");
+    let (register, kind) = register_and_kind;
+    Event {
+        register,
+        kind,
+        digests: all,
+        event,
+    }
+}
+
+/// A word of what a row tells.
+#[derive(Drop)]
+pub(crate) enum Is<'a> {
+    /// It is this one.
+    Name(&'a str),
+    /// It is this number in decimal digits.
+    Count(u64),
+    /// It is this number in hexadecimal digits.
+    Code(u64),
+    /// It is these bytes.
+    Bytes(&'a [u8]),
+}
+
+/// These bytes, or `none`.
+pub(crate) fn or_none(bytes: Option<&[u8]>) -> Is<'_> {
+    match bytes {
+        Some(bytes) => Is::Bytes(bytes),
+        None => Is::Name("none"),
+    }
+}
+
+/// The next words are these.
+pub(crate) fn tells(rt: &impl Abort, table: &str, told: &mut &str, words: &[Is<'_>]) {
+    for is in words {
+        let next = word(told);
+        let is_told = match is {
+            Is::Name(name) => *name == next,
+            Is::Count(number) => next.parse().ok() == Some(*number),
+            Is::Code(number) => u64::from_str_radix(next, 16).ok() == Some(*number),
+            Is::Bytes(bytes) => made(rt, table, next).as_slice() == *bytes,
+        };
+        holds(rt, is_told, next);
+    }
+}
+
 /// The next word is this one.
 pub(crate) fn names(rt: &impl Abort, told: &mut &str, name: &str) {
-    let next = word(told);
-    assert!(rt; next == name, "{name}, and not {next}");
+    holds(rt, word(told) == name, name);
 }
 
-/// The next word is this number, in decimal digits.
-pub(crate) fn counts(rt: &impl Abort, told: &mut &str, number: u64) {
-    let next = word(told);
-    assert!(rt;
-        next.parse().ok() == Some(number),
-        "{number}, and not {next}"
-    );
+/// The next word is what this prints as.
+pub(crate) fn prints(rt: &impl Abort, told: &mut &str, value: impl Debug + Drop) {
+    let mut text = ArrayString::<20>::new();
+    let _ = write!(text, "{value:?}");
+    names(rt, told, text.as_str());
 }
 
-/// The next word is this number, in hexadecimal digits.
-pub(crate) fn codes(rt: &impl Abort, told: &mut &str, number: u64) {
-    let next = word(told);
-    assert!(rt;
-        u64::from_str_radix(next, 16).ok() == Some(number),
-        "{number:x}, and not {next}"
-    );
+/// The next words are the kind of a fault and its place.
+pub(crate) fn faults(rt: &impl Abort, told: &mut &str, kind: impl Debug + Drop, at: u64) {
+    prints(rt, told, kind);
+    tells(rt, "", told, &[Is::Count(at)]);
 }
 
 /// The next words are the numbers of these banks, in hexadecimal digits.
 pub(crate) fn are_banks(rt: &impl Abort, told: &mut &str, banks: &[Alg]) {
     for bank in banks {
-        codes(rt, told, bank.number() as u64);
+        tells(rt, "", told, &[Is::Code(bank.number() as u64)]);
     }
-}
-
-/// The next word is these bytes.
-pub(crate) fn has(rt: &impl Abort, table: &str, told: &mut &str, bytes: &[u8]) {
-    let next = word(told);
-    holds(rt, made(rt, table, next).as_slice() == bytes, next);
-}
-
-/// The next word is these bytes, or `none`.
-pub(crate) fn may_have(rt: &impl Abort, table: &str, told: &mut &str, bytes: Option<&[u8]>) {
-    match bytes {
-        Some(bytes) => has(rt, table, told, bytes),
-        None => names(rt, told, "none"),
-    }
-}
-
-/// No word is left.
-pub(crate) fn ends(rt: &impl Abort, told: &str) {
-    holds(rt, told.is_empty(), told);
 }

@@ -1,15 +1,13 @@
 //! What the records of register 7 tell of Secure Boot. The digests are those of Python's hashlib, and the verdicts
 //! those of a model in Python.
 
-use crate::tests::rows::{Asked, counts, ends, has, holds, made, names, rows};
+use crate::tests::rows::{Asked, Is, faults, holds, made, prints, rows, tells};
 use std::process::Abort;
 use std::test::*;
+use tpm_event_data::Event;
 use tpm_log::Log;
 use tpm_secure_boot::laws::secure_boot_of_the_register;
-use tpm_secure_boot::{
-    SecureBoot, SecureBootFault, SecureBootFaultKind, SecureBootState, SecurityVariable,
-    secure_boot,
-};
+use tpm_secure_boot::{SecurityVariable, secure_boot};
 use tpm_types::Alg;
 
 // A header and records.
@@ -88,76 +86,35 @@ const RECORDS: &str = "
 struct Verdicts;
 
 impl Asked for Verdicts {
-    fn ask<R: Abort>(rt: &R, given: &str, mut told: &str) {
-        let bytes = made(rt, RECORDS, given);
-        let log = Log::parse(bytes.as_slice()).ok().expect(rt, given);
-        match secure_boot(&log, Alg::Sha256) {
-            Ok(verdict) => is_verdict(rt, &mut told, &verdict),
-            Err(fault) => is_fault(rt, &mut told, fault),
-        }
-        ends(rt, told);
+    fn ask<R: Abort>(rt: &R, given: &str, told: &mut &str) {
+        is_judged(rt, told, made(rt, RECORDS, given).as_slice());
     }
 }
 
-fn is_verdict(rt: &impl Abort, told: &mut &str, verdict: &SecureBoot<'_>) {
-    let state = match verdict.state {
-        SecureBootState::On => "on",
-        SecureBootState::Off => "off",
-        SecureBootState::Unset => "unset",
-    };
-    names(rt, told, state);
-    let is_unprotected = verdict.dma_protection_disabled;
-    names(
-        rt,
-        told,
-        if is_unprotected {
-            "unprotected"
-        } else {
-            "protected"
-        },
-    );
-}
-
-fn is_fault(rt: &impl Abort, told: &mut &str, fault: SecureBootFault) {
-    let name = match fault.kind {
-        SecureBootFaultKind::NotMeasured => "NotMeasured",
-        SecureBootFaultKind::OtherType => "OtherType",
-        SecureBootFaultKind::NoVariable => "NoVariable",
-        SecureBootFaultKind::Twice => "Twice",
-        SecureBootFaultKind::OtherValue => "OtherValue",
-        SecureBootFaultKind::Debugger => "Debugger",
-        SecureBootFaultKind::BadSeparator => "BadSeparator",
-        SecureBootFaultKind::NoSeparator => "NoSeparator",
-        SecureBootFaultKind::Late => "Late",
-        SecureBootFaultKind::NoKey => "NoKey",
-        SecureBootFaultKind::NoAuthority => "NoAuthority",
-        SecureBootFaultKind::NoSecureBoot => "NoSecureBoot",
-    };
-    names(rt, told, name);
-    counts(rt, told, fault.at as u64);
+fn is_judged(rt: &impl Abort, told: &mut &str, bytes: &[u8]) {
+    let log = Log::parse(bytes).ok().expect(rt, told);
+    match secure_boot(&log, Alg::Sha256) {
+        Ok(verdict) => {
+            prints(rt, told, verdict.state);
+            prints(rt, told, verdict.dma_protection_disabled);
+        }
+        Err(fault) => faults(rt, told, fault.kind, fault.at as u64),
+    }
 }
 
 #[test]
-fn a_verdict_is_told(rt: HostRuntime) {
+fn a_verdict_or_the_first_fault_is_told(rt: HostRuntime) {
     rows::<Verdicts>(
         &rt,
         "
-        HEADER SECURE_BOOT_ON PK KEK DB DBX SEPARATOR AUTHORITY AUTHORITY_CUT is on protected
-        HEADER ELSEWHERE NO_ACTION SECURE_BOOT_ON PK KEK DB DBX DBT DMA SEPARATOR ELSEWHERE AUTHORITY is on unprotected
-        HEADER SECURE_BOOT_OFF PK_EMPTY KEK DB SEPARATOR is off protected
-        HEADER SECURE_BOOT_OFF SEPARATOR AUTHORITY_CUT is off protected
-        HEADER SECURE_BOOT_ON PK KEK DB DBX DEVICE_POLICY DEVICE_POLICY SEPARATOR AUTHORITY is on protected
-        HEADER VARIABLE_AS_POLICY PK KEK DB SEPARATOR AUTHORITY is on protected
-        HEADER SECURE_BOOT_EMPTY SEPARATOR is unset protected
-        ",
-    );
-}
-
-#[test]
-fn the_first_fault_is_told(rt: HostRuntime) {
-    rows::<Verdicts>(
-        &rt,
-        "
+        HEADER SECURE_BOOT_ON PK KEK DB DBX SEPARATOR AUTHORITY AUTHORITY_CUT is On false
+        HEADER ELSEWHERE NO_ACTION SECURE_BOOT_ON PK KEK DB DBX DBT DMA SEPARATOR ELSEWHERE AUTHORITY is On true
+        HEADER SECURE_BOOT_OFF PK_EMPTY KEK DB SEPARATOR is Off false
+        HEADER SECURE_BOOT_OFF SEPARATOR AUTHORITY_CUT is Off false
+        HEADER SECURE_BOOT_ON PK KEK DB DBX DEVICE_POLICY DEVICE_POLICY SEPARATOR AUTHORITY is On false
+        HEADER VARIABLE_AS_POLICY PK KEK DB SEPARATOR AUTHORITY is On false
+        HEADER SECURE_BOOT_EMPTY SEPARATOR is Unset false
+        # The first fault is told.
         HEADER UNMEASURED PK KEK DB DBX SEPARATOR AUTHORITY is NotMeasured 65
         HEADER CUT_VARIABLE SEPARATOR is NotMeasured 65
         HEADER SECURE_BOOT_ON NO_DIGEST SEPARATOR is NotMeasured 168
@@ -194,34 +151,40 @@ fn the_first_fault_is_told(rt: HostRuntime) {
 struct Keys;
 
 impl Asked for Keys {
-    fn ask<R: Abort>(rt: &R, given: &str, mut told: &str) {
+    fn ask<R: Abort>(rt: &R, given: &str, told: &mut &str) {
         let bytes = made(rt, RECORDS, given);
-        let log = Log::parse(bytes.as_slice()).ok().expect(rt, given);
-        let verdict = secure_boot(&log, Alg::Sha256).ok().expect(rt, given);
-        is_key(rt, &mut told, verdict.pk);
-        is_key(rt, &mut told, verdict.kek);
-        is_key(rt, &mut told, verdict.db);
-        is_key(rt, &mut told, verdict.dbx);
-        are_measured(rt, &mut told, &log);
-        holds(rt, secure_boot(&log, Alg::Sha1).is_err(), given);
-        ends(rt, told);
+        are_keys(rt, told, bytes.as_slice());
+        are_measured(rt, told, bytes.as_slice());
     }
+}
+
+fn are_keys(rt: &impl Abort, told: &mut &str, bytes: &[u8]) {
+    let log = Log::parse(bytes).ok().expect(rt, told);
+    let verdict = secure_boot(&log, Alg::Sha256).ok().expect(rt, told);
+    for key in [verdict.pk, verdict.kek, verdict.db, verdict.dbx] {
+        is_key(rt, told, key);
+    }
+    holds(rt, secure_boot(&log, Alg::Sha1).is_err(), "of SHA-1");
 }
 
 fn is_key(rt: &impl Abort, told: &mut &str, variable: Option<SecurityVariable<'_>>) {
     let variable = variable.expect(rt, told);
-    counts(rt, told, variable.at as u64);
-    has(rt, "", told, variable.value);
+    let at = Is::Count(variable.at as u64);
+    tells(rt, "", told, &[at, Is::Bytes(variable.value)]);
 }
 
-fn are_measured(rt: &impl Abort, told: &mut &str, log: &Log<'_>) {
-    for event in log.events() {
+fn are_measured(rt: &impl Abort, told: &mut &str, bytes: &[u8]) {
+    for event in Log::parse(bytes).ok().expect(rt, told).events() {
         if event.register == 7 && event.kind == 0x8000_00E0 {
-            let text = event.measured(Alg::Sha256).expect(rt, told);
-            counts(rt, told, text.len() as u64);
-            holds(rt, event.measured(Alg::Sha1).is_none(), told);
+            is_measured(rt, told, &event);
         }
     }
+}
+
+fn is_measured(rt: &impl Abort, told: &mut &str, event: &Event<'_>) {
+    let text = event.measured(Alg::Sha256).expect(rt, told);
+    tells(rt, "", told, &[Is::Count(text.len() as u64)]);
+    holds(rt, event.measured(Alg::Sha1).is_none(), told);
 }
 
 #[test]
