@@ -1,6 +1,6 @@
-//! Hashes, HMACs and derived keys. A line is a word and what it is about, in hexadecimal: `hash HASH MESSAGE DIGEST`,
-//! `hmac HASH KEY TEXT MAC`, `kdfa HASH KEY LABEL CONTEXT_U CONTEXT_V DERIVED`.
+//! Hashes, HMACs and derived keys. A script's line is told in `session_scripts`.
 
+use crate::tests::session_scripts::run;
 use crate::tests::session_texts::{alg, bytes};
 use std::process::Abort;
 use std::test::*;
@@ -9,17 +9,8 @@ use tpm_testing::word;
 use tpm_types::Alg;
 use tpm_wire::Buffer;
 
-fn are_so(rt: &impl Abort, lines: &str) {
-    for line in lines.lines() {
-        let line = line.trim();
-        let is_said = line.is_empty() || line.starts_with('#');
-        assert!(rt; is_said || is_so(rt, line), "{line}");
-    }
-}
-
-fn is_so(rt: &impl Abort, line: &str) -> bool {
-    let mut rest = line;
-    let what = word(&mut rest);
+/// Whether the line's hash, HMAC or derived key is so.
+pub fn is_hashed(rt: &impl Abort, what: &str, mut rest: &str) -> bool {
     let alg = alg(rt, word(&mut rest));
     let first = bytes(rt, word(&mut rest));
     let second = bytes(rt, word(&mut rest));
@@ -29,7 +20,8 @@ fn is_so(rt: &impl Abort, line: &str) -> bool {
             let mac = hmac(alg, first.as_slice(), &[second.as_slice()]);
             mac.as_slice() == bytes(rt, rest).as_slice()
         }
-        _ => is_derived(rt, alg, &first, &second, rest),
+        "kdfa" => is_derived(rt, alg, &first, &second, rest),
+        _ => false,
     }
 }
 
@@ -51,12 +43,12 @@ fn is_derived(rt: &impl Abort, alg: Alg, key: &Buffer, label: &Buffer, rest: &st
     *derived == *expected.as_slice()
 }
 
-// The examples of FIPS 180-4: no byte, "abc", and two blocks.
 #[test]
-fn hashes_of_no_byte_one_block_and_two(rt: HostRuntime) {
-    are_so(
+fn hashes_hmacs_and_derived_keys_are_those_of_the_standards(rt: HostRuntime) {
+    run(
         &rt,
         "
+        # The examples of FIPS 180-4: no byte, abc, and two blocks
         hash 0004 - da39a3ee5e6b4b0d3255bfef95601890afd80709
         hash 0004 616263 a9993e364706816aba3e25717850c26c9cd0d89d
         hash 0004 6162636462636465636465666465666765666768666768696768696a68696a6b696a6b6c6a6b6c6d6b6c6d6e6c6d6e6f6d6e6f706e6f7071 84983e441c3bd26ebaae4aa1f95129e5e54670f1
@@ -66,19 +58,9 @@ fn hashes_of_no_byte_one_block_and_two(rt: HostRuntime) {
         hash 000c - 38b060a751ac96384cd9327eb1b1e36a21fdb71114be07434c0cc7bf63f6e1da274edebfe76f65fbd51ad2f14898b95b
         hash 000c 616263 cb00753f45a35e8bb5a03d699ac65007272c32ab0eded1631a8b605a43ff5bed8086072ba1e7cc2358baeca134c825a7
         hash 000c 61626364656667686263646566676869636465666768696a6465666768696a6b65666768696a6b6c666768696a6b6c6d6768696a6b6c6d6e68696a6b6c6d6e6f696a6b6c6d6e6f706a6b6c6d6e6f70716b6c6d6e6f7071726c6d6e6f707172736d6e6f70717273746e6f707172737475 09330c33f71147e83d192fc782cd1b4753111b173b3b05d22fa08086e3b0f712fcc7c71a557e2db966c3e9fa91746039
-        ",
-    );
-}
-
-// RFC 2202, section 3, and RFC 4231, section 4: test cases 1 to 4, 6 and 7. Then a key of no byte,
-// one as long as the block, which is taken as it is, and one longer by a byte, which is hashed
-// first, and "Hi There": those are of Python's hmac module.
-#[test]
-fn hmacs_of_the_rfcs_and_under_keys_about_a_block_long(rt: HostRuntime) {
-    are_so(
-        &rt,
-        "
-        # SHA-1
+        # RFC 2202, section 3, and RFC 4231, section 4: test cases 1 to 4, 6 and 7. Then a key of no byte, one as long
+        # as the block, which is taken as it is, and one longer by a byte, which is hashed first, and Hi There: those
+        # are of Python's hmac module. SHA-1
         hmac 0004 0b0b0b0b0b0b0b0b0b0b0b0b0b0b0b0b0b0b0b0b 4869205468657265 b617318655057264e28bc0b6fb378c8ef146be00
         hmac 0004 4a656665 7768617420646f2079612077616e7420666f72206e6f7468696e673f effcdf6ae5eb2fa2d27416d5f184df9c259a7c79
         hmac 0004 aaaaaaaaaaaaaaaaaaaaaaaaaaaaaaaaaaaaaaaa dddddddddddddddddddddddddddddddddddddddddddddddddddddddddddddddddddddddddddddddddddddddddddddddddddd 125d7342b9ac11cd91a39af48aa17b4f63f175d3
@@ -108,17 +90,8 @@ fn hmacs_of_the_rfcs_and_under_keys_about_a_block_long(rt: HostRuntime) {
         hmac 000c - 4869205468657265 da5393cef424a670d6db42c6ed6e7920779dfa4cbb98bf1c2e9c12ae10d10905d0c9e9d576c2a613be54b8daea246d4b
         hmac 000c aaaaaaaaaaaaaaaaaaaaaaaaaaaaaaaaaaaaaaaaaaaaaaaaaaaaaaaaaaaaaaaaaaaaaaaaaaaaaaaaaaaaaaaaaaaaaaaaaaaaaaaaaaaaaaaaaaaaaaaaaaaaaaaaaaaaaaaaaaaaaaaaaaaaaaaaaaaaaaaaaaaaaaaaaaaaaaaaaaaaaaaaaaaaaaaaaaaaaaaaaaaaaaaaaaaaaaaaaaaaaaaaaaaaaaaaaaaaaaaaaaaaaaaaaaaaaaaa 4869205468657265 5617c36d768eff4cdb4b48c3a320023adfa5deed39a88d75a739918c36338d6afe214107be6e51595c2f29d647bde45f
         hmac 000c aaaaaaaaaaaaaaaaaaaaaaaaaaaaaaaaaaaaaaaaaaaaaaaaaaaaaaaaaaaaaaaaaaaaaaaaaaaaaaaaaaaaaaaaaaaaaaaaaaaaaaaaaaaaaaaaaaaaaaaaaaaaaaaaaaaaaaaaaaaaaaaaaaaaaaaaaaaaaaaaaaaaaaaaaaaaaaaaaaaaaaaaaaaaaaaaaaaaaaaaaaaaaaaaaaaaaaaaaaaaaaaaaaaaaaaaaaaaaaaaaaaaaaaaaaaaaaaaaa 4869205468657265 a956933366648c218fd998d3117c6a71e32613e90743c3b854a8cc33e21684458fb9d43840e8e20ccd238b1c41c7d99c
-        ",
-    );
-}
-
-// Two blocks and part of a third, of the key "owner" and the label "ATH". The expected values are
-// those of OpenSSL's KBKDF, whose salt is the label and whose info is both contexts.
-#[test]
-fn derived_keys_have_as_many_blocks_as_they_take(rt: HostRuntime) {
-    are_so(
-        &rt,
-        "
+        # Two blocks and part of a third, of the key owner and the label ATH. The expected values are those of
+        # OpenSSL's KBKDF, whose salt is the label and whose info is both contexts.
         kdfa 0004 6f776e6572 415448 a0a1a2a3 b0b1b2b3b4 a1dfaa5b7add090e875683c746ce7911e18eb296221e9f4dbe89d904aef3f1b868f0576215bf9aebf065157cfad94523
         kdfa 000b 6f776e6572 415448 a0a1a2a3 b0b1b2b3b4 31e3e162e688498f3fa48b1e1afe0fae92e30e5c3e6ce872dcf7e1737fa6faf036f6b317f5120d1896a2fcb18b015545b500334b4091efb1ed7446292b1cf702bcf6a7f1b7793674
         ",

@@ -1,12 +1,13 @@
-//! NV memory as the bytes in which it is kept. The expected bytes are those of Python's struct and hashlib. A line
-//! of what is refused is the response code, the position and the bytes, in hexadecimal.
+//! NV memory as the bytes in which it is kept. The expected bytes are those of Python's struct and hashlib. A
+//! script's line is told in `session_scripts`.
 
+use crate::tests::pcr_and_nv_values::{define, index};
+use crate::tests::session_scripts::run;
 use crate::tests::session_texts::{bytes, number};
 use std::process::Abort;
 use std::test::*;
 use tpm_nv::{By, Counters, KEPT_BYTES};
 use tpm_testing::word;
-use tpm_types::{Alg, Digest, NvAttrs, NvIndex, NvPublic};
 use tpm_wire::response_code::INTEGRITY;
 use tpm_wire::{Buffer, Refusal, Wire};
 
@@ -21,29 +22,15 @@ fn kept(memory: &Counters) -> Buffer {
 // These counters are kept as the bytes of the text, and the bytes are read back and kept so again.
 fn is_kept_as(rt: &impl Abort, memory: &Counters, text: &str) {
     let expected = bytes(rt, text);
-    assert!(rt; kept(memory).as_slice() == expected.as_slice(), "{text}");
-    let again = Counters::from_bytes(expected.as_slice())
-        .ok()
-        .expect(rt, "NV memory");
-    assert!(rt; kept(&again).as_slice() == expected.as_slice(), "{text}");
+    let expected = expected.as_slice();
+    let again = Counters::from_bytes(expected).ok().expect(rt, text);
+    let found = (kept(memory), kept(&again));
+    assert!(rt;
+        (found.0.as_slice(), found.1.as_slice()) == (expected, expected),
+        "{text}"
+    );
     assert!(rt; again.greatest() == memory.greatest());
     assert!(rt; again.as_slice().len() == memory.as_slice().len());
-}
-
-fn index(rt: &impl Abort, number: u32) -> NvIndex {
-    NvIndex::from_number(number).expect(rt, "an index")
-}
-
-// Defines a counter that its owner and it itself may write and read, NO_DA set.
-fn define(rt: &impl Abort, counters: &mut Counters, number: u32, auth: &[u8]) {
-    let public = NvPublic {
-        index: index(rt, number),
-        alg: Alg::Sha256,
-        attrs: NvAttrs::from_number(0x0206_0016).expect(rt, "attributes"),
-        policy: Digest::default(),
-        data_size: 8,
-    };
-    assert!(rt; counters.define(&public, auth) == Ok(()));
 }
 
 #[test]
@@ -65,7 +52,7 @@ fn no_counter(rt: HostRuntime) {
 #[test]
 fn one_counter_before_and_after_its_first_increment(rt: HostRuntime) {
     let mut counters = Counters::new(7);
-    define(&rt, &mut counters, 0x0180_0001, b"key\0");
+    assert!(rt; define(&rt, &mut counters, 0x0180_0001, b"key\0") == Ok(()));
     is_kept_as(
         &rt,
         &counters,
@@ -80,8 +67,8 @@ fn one_counter_before_and_after_its_first_increment(rt: HostRuntime) {
         7ce11e424ba005478e47421b6265c7c619f13eb1663d1ddb14e6766bcedb53",
     );
     let found = counters.as_slice().first().expect(&rt, "a counter");
-    assert!(rt; (found.value(), found.has_auth()) == (Some(8), true));
-    assert!(rt; found.public().attrs.number() == 0x2206_0016);
+    let attributes = found.public().attrs.number();
+    assert!(rt; (found.value(), found.has_auth(), attributes) == (Some(8), true, 0x2206_0016));
 }
 
 // The k-th is incremented k times, and has an authorization value of k bytes.
@@ -89,12 +76,13 @@ fn one_counter_before_and_after_its_first_increment(rt: HostRuntime) {
 fn eight_counters(rt: HostRuntime) {
     let mut counters = Counters::new(100);
     for k in 0..8 {
-        define(
+        let defined = define(
             &rt,
             &mut counters,
             0x0180_0000 + k,
             &[0x61; 8][..k as usize],
         );
+        assert!(rt; defined == Ok(()));
         for _ in 0..k {
             assert!(rt;
                 counters
@@ -115,16 +103,8 @@ fn eight_counters(rt: HostRuntime) {
     );
 }
 
-fn are_refused(rt: &impl Abort, lines: &str) {
-    for line in lines.lines() {
-        let line = line.trim();
-        let is_said = line.is_empty() || line.starts_with('#');
-        assert!(rt; is_said || is_refused(rt, line), "{line}");
-    }
-}
-
-fn is_refused(rt: &impl Abort, line: &str) -> bool {
-    let mut rest = line;
+/// Whether these bytes are no NV memory, with this response code and this position.
+pub fn is_refused(rt: &impl Abort, mut rest: &str) -> bool {
     let code = number(rt, word(&mut rest));
     let at = number(rt, word(&mut rest));
     let found = Counters::from_bytes(bytes(rt, rest).as_slice()).err();
@@ -134,49 +114,49 @@ fn is_refused(rt: &impl Abort, line: &str) -> bool {
 #[test]
 fn other_bytes_are_refused_with_the_first_fault(rt: HostRuntime) {
     assert!(rt; INTEGRITY == 0x09F);
-    are_refused(
+    run(
         &rt,
         "
         # another magic number
-        84 0 564a4e570001000000000000000800000000a9cca351f1ae943f3c5e9fb65fd5d99b7568c3e4887ed7600dad20917f9e54b2
+        refused 84 0 564a4e570001000000000000000800000000a9cca351f1ae943f3c5e9fb65fd5d99b7568c3e4887ed7600dad20917f9e54b2
         # another version
-        84 4 564a4e56000200000000000000080000000052ed838c61b48bfef3201bc02af3fecd657777347cbbe698ec4ac538120f6320
+        refused 84 4 564a4e56000200000000000000080000000052ed838c61b48bfef3201bc02af3fecd657777347cbbe698ec4ac538120f6320
         # nine counters
-        95 e 564a4e56000100000000000000080000000968eba09177df6b10c390cae312d8338aecf3285ea724112e64032fa05955b08a
+        refused 95 e 564a4e56000100000000000000080000000968eba09177df6b10c390cae312d8338aecf3285ea724112e64032fa05955b08a
         # an attribute that is reserved
-        a1 1a 564a4e560001000000000000000800000001000e01800001000b220601160000000800036b65790000000000000008d5558692486f671a6b17308b57dbca0b77 94491907cb2be5ed37a72f68871df3
+        refused a1 1a 564a4e560001000000000000000800000001000e01800001000b220601160000000800036b65790000000000000008d5558692486f671a6b17308b57dbca0b77 94491907cb2be5ed37a72f68871df3
         # POLICY_DELETE
-        82 22 564a4e560001000000000000000800000001000e01800001000b220604160000000800036b65790000000000000008308016b7d339eef2a5c1fa0c5256b21e7d f8270cb3dfd59c1d648018822e8adf
+        refused 82 22 564a4e560001000000000000000800000001000e01800001000b220604160000000800036b65790000000000000008308016b7d339eef2a5c1fa0c5256b21e7d f8270cb3dfd59c1d648018822e8adf
         # no counter
-        82 22 564a4e560001000000000000000800000001000e01800001000b220600060000000800036b657900000000000000088816b90fd95b011c113012008c6b8a2247 388f7b5dbe7b012412296b2abf759e
+        refused 82 22 564a4e560001000000000000000800000001000e01800001000b220600060000000800036b657900000000000000088816b90fd95b011c113012008c6b8a2247 388f7b5dbe7b012412296b2abf759e
         # a policy of five bytes
-        95 27 564a4e560001000000000000000800000001001301800001000b2206001600050101010101000800036b65790000000000000008275194af37fb6c86010a0c39 e098c7fc30978f3885df4287b1a134d620ac1ea2
+        refused 95 27 564a4e560001000000000000000800000001001301800001000b2206001600050101010101000800036b65790000000000000008275194af37fb6c86010a0c39 e098c7fc30978f3885df4287b1a134d620ac1ea2
         # a value of nine bytes
-        95 22 564a4e560001000000000000000800000001000e01800001000b220600160000000900036b657900000000000000089a0cf04358284cb3640a94ee04dad5b14d c204cc3a57c56082d019965a39b1c6
+        refused 95 22 564a4e560001000000000000000800000001000e01800001000b220600160000000900036b657900000000000000089a0cf04358284cb3640a94ee04dad5b14d c204cc3a57c56082d019965a39b1c6
         # an authorization value of 33 bytes
-        95 45 564a4e560001000000000000000800000001000e01800001000b220600160000000800216b6b6b6b6b6b6b6b6b6b6b6b6b6b6b6b6b6b6b6b6b6b6b6b6b6b6b6b 6b6b6b6b6b00000000000000083fea1f8e7c113fb2b7ebb995c1c9c415d874ef1f71e3fabc14f2588c35a42290
+        refused 95 45 564a4e560001000000000000000800000001000e01800001000b220600160000000800216b6b6b6b6b6b6b6b6b6b6b6b6b6b6b6b6b6b6b6b6b6b6b6b6b6b6b6b 6b6b6b6b6b00000000000000083fea1f8e7c113fb2b7ebb995c1c9c415d874ef1f71e3fabc14f2588c35a42290
         # trailing zeros
-        84 26 564a4e560001000000000000000800000001000e01800001000b220600160000000800026b000000000000000008662367003fb976bdeccc87cbee25dfa98627 e6191d17ff6d46acc2d9b974fb07
+        refused 84 26 564a4e560001000000000000000800000001000e01800001000b220600160000000800026b000000000000000008662367003fb976bdeccc87cbee25dfa98627 e6191d17ff6d46acc2d9b974fb07
         # WRITTEN and a value of 0
-        84 27 564a4e560001000000000000000800000001000e01800001000b220600160000000800036b6579000000000000000009a6011a9b558bc074615d8a34cf64e171 d7088a5326c69b08995918648fa2cb
+        refused 84 27 564a4e560001000000000000000800000001000e01800001000b220600160000000800036b6579000000000000000009a6011a9b558bc074615d8a34cf64e171 d7088a5326c69b08995918648fa2cb
         # a value without WRITTEN
-        9f 27 564a4e560001000000000000000800000001000e01800001000b020600160000000800036b65790000000000000008b7b3e1a1974e7fc3a13a150a2691db0e51 8c59fb7035dcf6034f687f95eb0288
+        refused 9f 27 564a4e560001000000000000000800000001000e01800001000b020600160000000800036b65790000000000000008b7b3e1a1974e7fc3a13a150a2691db0e51 8c59fb7035dcf6034f687f95eb0288
         # WRITTEN without a value, which are then bytes of the digest
-        146 2f 564a4e560001000000000000000800000001000e01800001000b220600160000000800036b657902b4b580c6a4a949b88ee880d39a53d16164df3610f7d0e0be 3045dfb683a4db
+        refused 146 2f 564a4e560001000000000000000800000001000e01800001000b220600160000000800036b657902b4b580c6a4a949b88ee880d39a53d16164df3610f7d0e0be 3045dfb683a4db
         # a value above the greatest
-        146 2f 564a4e560001000000000000000700000001000e01800001000b220600160000000800036b657900000000000000089a739ad86111b1dd5c857d8148b2016fe8 ad7ca62d64304c701a406c22dcd5be
+        refused 146 2f 564a4e560001000000000000000700000001000e01800001000b220600160000000800036b657900000000000000089a739ad86111b1dd5c857d8148b2016fe8 ad7ca62d64304c701a406c22dcd5be
         # an index that is there twice
-        14c 41 564a4e560001000000000000000800000002000e01800001000b220600160000000800036b65790000000000000008000e01800001000b020600160000000800 007e6d4c8a4a9d587ca61ada0d15aebe5981c3fcbdbfba449e1e0313f211e90b97
+        refused 14c 41 564a4e560001000000000000000800000002000e01800001000b220600160000000800036b65790000000000000008000e01800001000b020600160000000800 007e6d4c8a4a9d587ca61ada0d15aebe5981c3fcbdbfba449e1e0313f211e90b97
         # a digest with its last bit changed
-        9f 2f 564a4e560001000000000000000800000001000e01800001000b220600160000000800036b65790000000000000008d07ce11e424ba005478e47421b6265c7c6 19f13eb1663d1ddb14e6766bcedb52
+        refused 9f 2f 564a4e560001000000000000000800000001000e01800001000b220600160000000800036b65790000000000000008d07ce11e424ba005478e47421b6265c7c6 19f13eb1663d1ddb14e6766bcedb52
         # a greatest value that was changed
-        9f 2f 564a4e560001000000000000000900000001000e01800001000b220600160000000800036b65790000000000000008d07ce11e424ba005478e47421b6265c7c6 19f13eb1663d1ddb14e6766bcedb53
+        refused 9f 2f 564a4e560001000000000000000900000001000e01800001000b220600160000000800036b65790000000000000008d07ce11e424ba005478e47421b6265c7c6 19f13eb1663d1ddb14e6766bcedb53
         # one byte less
-        9a 2f 564a4e560001000000000000000800000001000e01800001000b220600160000000800036b65790000000000000008d07ce11e424ba005478e47421b6265c7c6 19f13eb1663d1ddb14e6766bcedb
+        refused 9a 2f 564a4e560001000000000000000800000001000e01800001000b220600160000000800036b65790000000000000008d07ce11e424ba005478e47421b6265c7c6 19f13eb1663d1ddb14e6766bcedb
         # one byte more
-        95 4f 564a4e560001000000000000000800000001000e01800001000b220600160000000800036b65790000000000000008d07ce11e424ba005478e47421b6265c7c6 19f13eb1663d1ddb14e6766bcedb5300
+        refused 95 4f 564a4e560001000000000000000800000001000e01800001000b220600160000000800036b65790000000000000008d07ce11e424ba005478e47421b6265c7c6 19f13eb1663d1ddb14e6766bcedb5300
         # no byte
-        9a 0 -
+        refused 9a 0 -
         ",
     );
 }

@@ -20,13 +20,13 @@ fn is(rt: &impl Abort, found: &[u8], expected: &str) {
     assert!(rt; found == bytes(rt, expected).as_slice(), "{expected}");
 }
 
-// The values of a register, one behind the other: of SHA-1, SHA-256 and SHA-384.
-fn values(registers: &Registers, register: PcrIndex) -> Buffer {
+// Whether these are the values of register 0, one behind the other: of SHA-1, SHA-256 and SHA-384.
+fn are_values(rt: &impl Abort, registers: &Registers, expected: &str) {
     let mut all = Buffer::new();
     for alg in Alg::ALL {
-        let _ = all.try_extend_from_slice(registers.read(alg, register).as_slice());
+        let _ = all.try_extend_from_slice(registers.read(alg, register(rt, 0)).as_slice());
     }
-    all
+    is(rt, all.as_slice(), expected);
 }
 
 // The digests of a list, one behind the other.
@@ -51,9 +51,9 @@ fn an_event_is_hashed_and_extended_in_each_bank(rt: HostRuntime) {
         df3f619804a92fdb4057192dc43dd748ea778adc52bc498ce80524c014b81119
         394341b7182cd227c5c6b07ef8000cdfd86136c4292b8e576573ad7ed9ae41019f5818b4b971c9effc60e1ad9f1289f0",
     );
-    is(
+    are_values(
         &rt,
-        values(&registers, first).as_slice(),
+        &registers,
         "b2a83b0ebf2f8374299a5b2bdfc31ea955ad7236
         3d458cfe55cc03ea1f443f1562beec8df51c75e14a9fcf9a7234a13f198e7969
         518923b0f955d08da077c96aaba522b9decede61c599cea6c41889cfbea4ae4d50529d96fe4d1afdafb65e7f95bf23c4",
@@ -72,9 +72,9 @@ fn a_digest_leaves_the_other_banks_and_the_other_registers(rt: HostRuntime) {
         registers.extend(register(&rt, 17), &one),
     ];
     assert!(rt; (extended, registers.update_counter()) == ([Ok(()), Err(0x907)], 1));
-    is(
+    are_values(
         &rt,
-        values(&registers, register(&rt, 0)).as_slice(),
+        &registers,
         "0000000000000000000000000000000000000000
         f5a5fd42d16a20302798ef6ed309979b43003d2320d9f0e8ea9831a92759fb4b
         000000000000000000000000000000000000000000000000000000000000000000000000000000000000000000000000",
@@ -97,9 +97,9 @@ fn a_register_that_may_be_reset_alone_is(rt: HostRuntime) {
 fn a_start_up_locality_is_the_last_byte_in_each_bank(rt: HostRuntime) {
     let mut registers = Registers::new();
     registers.start_at(Locality::Three);
-    is(
+    are_values(
         &rt,
-        values(&registers, register(&rt, 0)).as_slice(),
+        &registers,
         "0000000000000000000000000000000000000003
         0000000000000000000000000000000000000000000000000000000000000003
         000000000000000000000000000000000000000000000000000000000000000000000000000000000000000000000003",
@@ -144,12 +144,18 @@ fn no_more_than_eight_registers_are_read(rt: HostRuntime) {
     assert!(rt; values.as_slice().len() == 8);
 }
 
-fn index(rt: &impl Abort, number: u32) -> NvIndex {
+/// The NV index of this number.
+pub fn index(rt: &impl Abort, number: u32) -> NvIndex {
     NvIndex::from_number(number).expect(rt, "an index")
 }
 
-// Defines a counter that its owner and it itself may write and read, NO_DA set.
-fn define(rt: &impl Abort, counters: &mut Counters, number: u32, auth: &[u8]) -> Result<(), u32> {
+/// Defines a counter that its owner and it itself may write and read, NO_DA set.
+pub fn define(
+    rt: &impl Abort,
+    counters: &mut Counters,
+    number: u32,
+    auth: &[u8],
+) -> Result<(), u32> {
     let public = NvPublic {
         index: index(rt, number),
         alg: Alg::Sha256,
@@ -166,8 +172,8 @@ fn a_counter_defined_again_goes_on(rt: HostRuntime) {
     let mut counters = Counters::new(0);
     let before = counters.increment(one, By::Owner);
     let defined = define(&rt, &mut counters, 0x0180_0001, b"a\0");
-    assert!(rt; (before, defined) == (Err(0x08B), Ok(())));
-    assert!(rt; counters.auth(one) == Some(b"a".as_slice()));
+    let auth = counters.auth(one);
+    assert!(rt; (before, defined, auth) == (Err(0x08B), Ok(()), Some(b"a".as_slice())));
     let found = [
         counters.increment(one, By::Owner),
         counters.increment(one, By::Owner),

@@ -106,7 +106,7 @@ pub fn replies(rt: &impl Abort, bench: &Bench, rest: &str) -> bool {
 }
 
 #[test]
-fn macs_are_over_names_and_parameters_under_the_keys_of_sessions(rt: HostRuntime) {
+fn sessions_and_passwords_authorize_commands_and_add_macs_to_replies(rt: HostRuntime) {
     run(
         &rt,
         "
@@ -230,15 +230,6 @@ fn macs_are_over_names_and_parameters_under_the_keys_of_sessions(rt: HostRuntime
         follows 02000000 index 610062
         follows 02000000 register -
         follows 02000000 null -
-        ",
-    );
-}
-
-#[test]
-fn passwords_are_trimmed_have_no_nonce_and_serve_where_an_index_says(rt: HostRuntime) {
-    run(
-        &rt,
-        "
         # Passwords are trimmed and have no nonce. An NV_Increment by the index itself, whose value is 61, by passwords.
         new
         # with NO_DA
@@ -283,15 +274,7 @@ fn passwords_are_trimmed_have_no_nonce_and_serve_where_an_index_says(rt: HostRun
         index - 000e 01800001 000b 02040012 0000 0008
         authorize index 00000000 12f 8002 0000001f 00000134 01800001 01800001 00000009 40000009 0000 01 0000
         authorize index 00000000 0 8002 00000023 0000014e 01800001 01800001 00000009 40000009 0000 01 0000 00080000
-        ",
-    );
-}
-
-#[test]
-fn the_checks_of_a_session_come_in_order(rt: HostRuntime) {
-    run(
-        &rt,
-        "
+        # The checks of a session come in order.
         # In order: A PCR_Reset of register 16 with an empty HMAC.
         new
         command 0 8001 0000002b 00000176 40000007 40000007 0010 a0a1a2a3a4a5a6a7a8a9aaabacadaeaf 0000 00 0010 000b
@@ -316,15 +299,7 @@ fn the_checks_of_a_session_come_in_order(rt: HostRuntime) {
         command 0 8001 0000002b 00000176 40000007 40000007 0010 a0a1a2a3a4a5a6a7a8a9aaabacadaeaf 0000 03 0010 000b
         authorize register 00000010 982 8002 0000001b 0000013d 00000010 00000009 03000000 0000 01 0000
         authorize register 00000010 982 8002 00000024 0000013d 00000010 00000012 03000000 0000 01 0000 03000000 0000 01 0000
-        ",
-    );
-}
-
-#[test]
-fn a_policy_serves_the_index_that_has_it(rt: HostRuntime) {
-    run(
-        &rt,
-        "
+        # A policy serves the index that has it.
         # Policies of indices: A policy session that asserts nothing: its digest is zeros.
         new
         command 0 8001 0000002b 00000176 40000007 40000007 0010 a0a1a2a3a4a5a6a7a8a9aaabacadaeaf 0000 01 0010 000b
@@ -374,15 +349,7 @@ fn a_policy_serves_the_index_that_has_it(rt: HostRuntime) {
         authorize register 00000000 982 8002 0000001f 00000134 01800001 01800001 00000009 03000000 0000 01 0000
         authorize null 00000000 982 8002 0000001f 00000134 01800001 01800001 00000009 03000000 0000 01 0000
         authorize owner 00000000 982 8002 0000001f 00000134 01800001 01800001 00000009 03000000 0000 01 0000
-        ",
-    );
-}
-
-#[test]
-fn a_reply_has_the_macs_of_the_next_nonce_where_the_command_has_one(rt: HostRuntime) {
-    run(
-        &rt,
-        "
+        # A reply has the MACs of the next nonce where the command has one.
         # The MACs of the next nonce. An NV_Read by the owner in a session, and its reply with the value 4.
         new
         command 0 8001 0000002b 00000176 40000007 40000001 0010 a0a1a2a3a4a5a6a7a8a9aaabacadaeaf 0000 00 0010 0004

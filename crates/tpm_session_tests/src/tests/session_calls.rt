@@ -1,6 +1,6 @@
 //! Commands on sessions, and what sessions are asked for.
 
-use crate::tests::session_texts::{bytes, number};
+use crate::tests::session_texts::{alg, bytes, number};
 use std::process::Abort;
 use std::test::*;
 use tpm_buffer::{areas, decode_command};
@@ -13,8 +13,8 @@ use tpm_types::{PcrOrNull, PolicyHandle, SessionHandle};
 /// The owner's authorization value, with zeros that are no part of it.
 pub const OWNER: &[u8] = b"owner\0\0";
 
-/// What is handed in for the nonce of a session.
-pub const FRESH: [u8; NONCE_BYTES] = [
+// What is handed in for the nonce of a session.
+const FRESH: [u8; NONCE_BYTES] = [
     0x00, 0x01, 0x02, 0x03, 0x04, 0x05, 0x06, 0x07, 0x08, 0x09, 0x0A, 0x0B, 0x0C, 0x0D, 0x0E, 0x0F,
     0x10, 0x11, 0x12, 0x13, 0x14, 0x15, 0x16, 0x17, 0x18, 0x19, 0x1A, 0x1B, 0x1C, 0x1D, 0x1E, 0x1F,
     0x20, 0x21, 0x22, 0x23, 0x24, 0x25, 0x26, 0x27, 0x28, 0x29, 0x2A, 0x2B, 0x2C, 0x2D, 0x2E, 0x2F,
@@ -83,14 +83,6 @@ pub fn is_started(rt: &impl Abort, sessions: &mut Sessions, handle: u32, text: &
     }
 }
 
-/// Whether these bytes are a TPM2_StartAuthSession that is done.
-pub fn starts(sessions: &mut Sessions, bytes: &[u8]) -> bool {
-    match decode_command(bytes) {
-        Ok(command) => done(sessions, &Registers::new(), &command.body).is_ok(),
-        Err(_) => false,
-    }
-}
-
 /// Whether this TPM2_PCR_Extend is done.
 pub fn extend(rt: &impl Abort, registers: &mut Registers, text: &str) -> bool {
     let bytes = bytes(rt, text);
@@ -144,6 +136,20 @@ pub fn has_nonce(rt: &impl Abort, sessions: &Sessions, rest: &str) -> bool {
     let nonce = bytes(rt, rest);
     match sessions.get(session) {
         Some(held) => held.nonce() == nonce.as_slice(),
+        None => false,
+    }
+}
+
+/// Whether the session of this handle has this hash and key, and for its nonce the first bytes of what is handed in.
+pub fn has_key(rt: &impl Abort, sessions: &Sessions, rest: &str) -> bool {
+    let mut rest = rest;
+    let session = session(rt, word(&mut rest));
+    let hash = alg(rt, word(&mut rest));
+    let key = bytes(rt, rest);
+    match sessions.get(session) {
+        Some(held) => {
+            held.hash() == hash && held.key() == key.as_slice() && held.nonce() == &FRESH[..16]
+        }
         None => false,
     }
 }

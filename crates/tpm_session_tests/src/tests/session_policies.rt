@@ -154,7 +154,7 @@ fn a_code_is_set_again_and_no_other(rt: HostRuntime) {
 }
 
 #[test]
-fn codes_and_choices_are_asserted_or_refused(rt: HostRuntime) {
+fn codes_choices_and_registers_are_asserted_or_refused(rt: HostRuntime) {
     run(
         &rt,
         "
@@ -182,15 +182,6 @@ fn codes_and_choices_are_asserted_or_refused(rt: HostRuntime) {
         command 1d5 8001 00000034 00000171 03000000 00000001 0020 0000000000000000000000000000000000000000000000000000000000000000
         command 1c4 8001 00000056 00000171 03000000 00000002 0020 8fcd2169ab92694e0c633f1ab772842b8241bbc20288981fc7ac1eddc1fddb0e 0020 e8c02d3c5e701670cbaa327db1a2e9f3f41b2c22793e5c669a6e7f44b912f6c0
         digest 0000000000000000000000000000000000000000000000000000000000000000
-        ",
-    );
-}
-
-#[test]
-fn registers_are_asserted_or_refused(rt: HostRuntime) {
-    run(
-        &rt,
-        "
         # Another digest of registers is refused.
         new
         command 0 8001 0000002b 00000176 40000007 40000007 0010 a0a1a2a3a4a5a6a7a8a9aaabacadaeaf 0000 01 0010 000b

@@ -11,6 +11,7 @@
 //!   continueSession and without. The next nonce is made of zeros.
 //! - `loaded HANDLE` and `absent HANDLE`: whether there is such a session.
 //! - `nonce HANDLE BYTES`: what nonce the session has.
+//! - `key HANDLE HASH BYTES`: what hash and key the session has, whose nonce is the one that was handed in.
 //! - `digest BYTES` and `no-digest HANDLE CODE`: the policy digest of the session in slot 0, and a
 //!   refusal to tell one.
 //! - `index AUTH BYTES`: from here on, the index is one with this authorization value and this
@@ -21,10 +22,17 @@
 //!   this Name, are answered with this code, 0 for a yes.
 //! - `reply ENTITY PARAMETERS NONCE ATTRIBUTES HMAC BYTES`: the session of the reply to this
 //!   command with these parameters.
+//! - `hash HASH MESSAGE DIGEST`, `hmac HASH KEY TEXT MAC` and
+//!   `kdfa HASH KEY LABEL CONTEXT_U CONTEXT_V DERIVED`: hashes, HMACs and derived keys.
+//! - `mac SIDE ..`: the MAC of a command or a response, as `hmac_macs` tells.
+//! - `refused CODE POSITION BYTES`: these bytes are no NV memory, with this fault.
 
+use crate::tests::hmac_hashes::is_hashed;
+use crate::tests::hmac_macs::is_authentic;
+use crate::tests::nv_kept::is_refused;
 use crate::tests::session_authorize::{answers, follows, replies};
 use crate::tests::session_calls::{
-    answer, extend, has_digest, has_no_digest, has_nonce, is_started, rolls, session,
+    answer, extend, has_digest, has_key, has_no_digest, has_nonce, is_started, rolls, session,
 };
 use crate::tests::session_texts::{bytes, number};
 use std::process::Abort;
@@ -117,11 +125,14 @@ fn is_so(rt: &impl Abort, bench: &Bench, asked: &str, rest: &str) -> bool {
         "loaded" => bench.sessions.get(session(rt, rest)).is_some(),
         "absent" => bench.sessions.get(session(rt, rest)).is_none(),
         "nonce" => has_nonce(rt, &bench.sessions, rest),
+        "key" => has_key(rt, &bench.sessions, rest),
         "digest" => has_digest(rt, &bench.sessions, rest),
         "no-digest" => has_no_digest(rt, &bench.sessions, rest),
         "follows" => follows(rt, bench, rest),
         "authorize" => answers(rt, bench, rest),
         "reply" => replies(rt, bench, rest),
-        _ => false,
+        "refused" => is_refused(rt, rest),
+        "mac" => is_authentic(rt, rest),
+        _ => is_hashed(rt, asked, rest),
     }
 }

@@ -1,15 +1,12 @@
 //! The slots of sessions, and what each of them is started with. A script's line is told in `session_scripts`.
 
-use crate::tests::session_calls::{FRESH, session, starts};
 use crate::tests::session_scripts::run;
-use crate::tests::session_texts::{bytes, number};
 use std::mem::size_of;
-use std::process::Abort;
 use std::test::*;
 use tpm_session::Sessions;
 
 #[test]
-fn three_sessions_are_started_flushed_once_and_go_on_or_end(rt: HostRuntime) {
+fn sessions_are_started_with_nonces_and_keys_flushed_once_and_go_on_or_end(rt: HostRuntime) {
     run(
         &rt,
         "
@@ -41,15 +38,6 @@ fn three_sessions_are_started_flushed_once_and_go_on_or_end(rt: HostRuntime) {
         nonce 02000000 00000000000000000000000000000000
         ended 02000000
         absent 02000000
-        ",
-    );
-}
-
-#[test]
-fn nonces_that_sessions_are_started_with(rt: HostRuntime) {
-    run(
-        &rt,
-        "
         # A nonce has 16 bytes and no more than a digest.
         new
         command 1d5 8001 0000002a 00000176 40000007 40000007 000f 000000000000000000000000000000 0000 00 0010 000b
@@ -59,56 +47,25 @@ fn nonces_that_sessions_are_started_with(rt: HostRuntime) {
         command 0 8001 0000003b 00000176 40000007 40000007 0020 0000000000000000000000000000000000000000000000000000000000000000 0000 00 0010 000b
         new
         command 0 8001 0000004b 00000176 40000007 40000007 0030 000000000000000000000000000000000000000000000000000000000000000000000000000000000000000000000000 0000 00 0010 000c
+        # A session that is bound to the owner has a key, which is that of Python's hmac module: KDFa of the owner's
+        # value, which the trailing zeros of the value are no part of. One that is bound to nothing has none.
+        new
+        command 0 8001 0000002b 00000176 40000007 40000001 0010 a0a1a2a3a4a5a6a7a8a9aaabacadaeaf 0000 00 0010 0004
+        command 0 8001 0000002b 00000176 40000007 40000007 0010 a0a1a2a3a4a5a6a7a8a9aaabacadaeaf 0000 00 0010 0004
+        key 02000000 0004 c6103ca8e8b8172b2019aa95b7019d8a2a2706e0
+        key 02000001 0004 -
+        new
+        command 0 8001 0000002b 00000176 40000007 40000001 0010 a0a1a2a3a4a5a6a7a8a9aaabacadaeaf 0000 00 0010 000b
+        command 0 8001 0000002b 00000176 40000007 40000007 0010 a0a1a2a3a4a5a6a7a8a9aaabacadaeaf 0000 00 0010 000b
+        key 02000000 000b d683350f651cf750805521c488f3158619d9f0c51477fc08c55f950486759120
+        key 02000001 000b -
+        new
+        command 0 8001 0000002b 00000176 40000007 40000001 0010 a0a1a2a3a4a5a6a7a8a9aaabacadaeaf 0000 00 0010 000c
+        command 0 8001 0000002b 00000176 40000007 40000007 0010 a0a1a2a3a4a5a6a7a8a9aaabacadaeaf 0000 00 0010 000c
+        key 02000000 000c b898a9e3754a084ba63c6b822e2fa9e986a82d8bcb3bf78ec74505edec0a0adb795f040a48760dca483b0255b5b6b637
+        key 02000001 000c -
         ",
     );
-}
-
-// A hash, and the key under it of a session that is bound to the owner. The keys are those of
-// Python's hmac module: KDFa of the owner's value, which the trailing zeros of the value are no
-// part of.
-const KEYS: &str = "\
-0004 c6103ca8e8b8172b2019aa95b7019d8a2a2706e0
-000b d683350f651cf750805521c488f3158619d9f0c51477fc08c55f950486759120
-000c b898a9e3754a084ba63c6b822e2fa9e986a82d8bcb3bf78ec74505edec0a0adb795f040a48760dca483b0255b5b6b637";
-
-// Whether the session has this hash and key, and for its nonce the first bytes of what is handed in.
-fn has(rt: &impl Abort, sessions: &Sessions, handle: &str, hash: u32, key: &[u8]) -> bool {
-    match sessions.get(session(rt, handle)) {
-        Some(held) => {
-            held.hash().number() as u32 == hash && held.key() == key && held.nonce() == &FRESH[..16]
-        }
-        None => false,
-    }
-}
-
-// TPM2_StartAuthSession of an HMAC session that is bound to this entity, under this hash.
-fn start(rt: &impl Abort, sessions: &mut Sessions, bind: &str, hash: &str) -> bool {
-    let mut command = bytes(rt, "8001 0000002b 00000176 40000007");
-    let nonce = "0010 a0a1a2a3a4a5a6a7a8a9aaabacadaeaf 0000 00 0010";
-    for part in [bind, nonce, hash] {
-        assert!(rt;
-            command
-                .try_extend_from_slice(bytes(rt, part).as_slice())
-                .is_ok()
-        );
-    }
-    starts(sessions, command.as_slice())
-}
-
-#[test]
-fn bound_session_has_a_key_of_the_trimmed_value(rt: HostRuntime) {
-    for line in KEYS.lines() {
-        let (hash, key) = line.split_once(' ').expect(&rt, line);
-        let mut sessions = Sessions::new();
-        assert!(rt; start(&rt, &mut sessions, "40000001", hash), "{line}");
-        assert!(rt; start(&rt, &mut sessions, "40000007", hash), "{line}");
-        let (hash, key) = (number(&rt, hash), bytes(&rt, key));
-        assert!(rt;
-            has(&rt, &sessions, "02000000", hash, key.as_slice()),
-            "{line}"
-        );
-        assert!(rt; has(&rt, &sessions, "02000001", hash, &[]), "{line}");
-    }
 }
 
 // Three sessions, all of them in place.
