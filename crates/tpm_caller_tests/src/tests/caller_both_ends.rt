@@ -5,7 +5,7 @@ use crate::tests::caller_commands::{
     increment, reset,
 };
 use crate::tests::caller_replies::{fault, given_up, kept, opened};
-use crate::tests::caller_sessions::{OWNER, bytes, nonce};
+use crate::tests::caller_sessions::{OWNER, bytes};
 use crate::tests::caller_tpm::{FLUSH, ONCE, TWICE, Tpm};
 use std::process::Abort;
 use std::test::*;
@@ -40,7 +40,7 @@ fn refused(rt: &impl Abort, tpm: &mut Tpm, waiting: Waiting, code: u32) -> Calle
 
 // An extend of register 0 in a session of its own, with this nonce.
 fn extends(rt: &impl Abort, tpm: &mut Tpm, bind: BindHandle, by: &str) -> Waiting {
-    extend(rt, tpm.session(rt, bind), 0, nonce(rt, by))
+    extend(rt, tpm.session(rt, bind), 0, by)
 }
 
 // The Waiting of a reply to another command.
@@ -58,10 +58,10 @@ fn a_buffer_is_accepted_once(rt: HostRuntime) {
     let again = tpm.answer(first.bytes());
     tpm.reads(&rt, ONCE);
     let caller = kept(&rt, first, reply.as_slice());
-    let later = extend(&rt, caller, 0, nonce(&rt, SECOND));
+    let later = extend(&rt, caller, 0, SECOND);
     let later = mixed(&rt, later, reply.as_slice());
     let caller = given_up(&rt, later, again.as_slice(), 0x9A2);
-    done(&rt, &mut tpm, extend(&rt, caller, 0, nonce(&rt, SECOND)));
+    done(&rt, &mut tpm, extend(&rt, caller, 0, SECOND));
     tpm.reads(&rt, TWICE);
 }
 
@@ -69,7 +69,7 @@ fn a_buffer_is_accepted_once(rt: HostRuntime) {
 fn a_session_that_is_not_kept_ends(rt: HostRuntime) {
     let mut tpm = Tpm::started(&rt);
     let caller = tpm.session(&rt, BindHandle::Owner);
-    let last = reset(&rt, caller, &[], nonce(&rt, FIRST), false);
+    let last = reset(&rt, caller, &[], FIRST, false);
     let reply = tpm.answer(last.bytes());
     tpm.has_code(&rt, last.bytes(), 0x918);
     let (caller, _body) = opened(&rt, last, reply.as_slice());
@@ -80,9 +80,9 @@ fn a_session_that_is_not_kept_ends(rt: HostRuntime) {
 fn a_refused_register_gives_the_caller_back(rt: HostRuntime) {
     let mut tpm = Tpm::started(&rt);
     let caller = tpm.session(&rt, BindHandle::Owner);
-    let dynamic = extend(&rt, caller, 17, nonce(&rt, FIRST));
+    let dynamic = extend(&rt, caller, 17, FIRST);
     let caller = refused(&rt, &mut tpm, dynamic, 0x907);
-    done(&rt, &mut tpm, extend(&rt, caller, 0, nonce(&rt, FIRST)));
+    done(&rt, &mut tpm, extend(&rt, caller, 0, FIRST));
     tpm.reads(&rt, ONCE);
 }
 
@@ -168,7 +168,7 @@ fn a_nonce_that_comes_twice_lets_a_buffer_in_twice(rt: HostRuntime) {
     let same = [0xC1; 64];
     let mut tpm = Tpm::started(&rt);
     let caller = tpm.session_from(&rt, BindHandle::Owner, &same);
-    let a = extend(&rt, caller, 0, nonce(&rt, FIRST));
+    let a = extend(&rt, caller, 0, FIRST);
     tpm.has_code(&rt, a.bytes(), 0);
     tpm.has_code(&rt, a.bytes(), 0x9A2);
     tpm.answers(&rt, FLUSH, "80010000000a00000000");

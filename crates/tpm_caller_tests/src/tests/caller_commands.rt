@@ -7,8 +7,8 @@ use std::test::*;
 use tpm_caller::{Caller, Waiting};
 use tpm_commands::{CommandBody, Event, NvDefineSpace};
 use tpm_types::{
-    Alg, AuthValue, Digest, DigestValues, HashedDigest, Name, Nonce, NvAttrs, NvAuthHandle,
-    NvIndex, NvPublic, PcrIndex, PcrOrNull, RH_OWNER, name_of_handle,
+    Alg, AuthValue, Digest, DigestValues, HashedDigest, Name, NvAttrs, NvAuthHandle, NvIndex,
+    NvPublic, PcrIndex, PcrOrNull, RH_OWNER, name_of_handle,
 };
 
 /// The nonceCallers of two commands.
@@ -51,7 +51,7 @@ pub const UNDER_A_LONG_KEY: &str =
     "80020000003f0000013d000000100000002d02000002001022222222222222222222222222222222010014de77263757b4310213c568396f6ce73f9ae0e54e";
 
 /// TPM2_PCR_Extend of a register with 32 zeros for SHA-256, sealed to keep the session.
-pub fn extend(rt: &impl Abort, caller: Caller, register: u32, nonce: Nonce) -> Waiting {
+pub fn extend(rt: &impl Abort, caller: Caller, register: u32, by: &str) -> Waiting {
     let zeros = HashedDigest::new(Alg::Sha256, &[0; 32]).expect(rt, "a digest");
     let mut names = ArrayVec::new();
     names.push(name_of_handle(register));
@@ -62,13 +62,13 @@ pub fn extend(rt: &impl Abort, caller: Caller, register: u32, nonce: Nonce) -> W
         },
         names,
         &[],
-        nonce,
+        nonce(rt, by),
         true,
     )
 }
 
 /// TPM2_PCR_Reset of register 16.
-pub fn reset(rt: &impl Abort, caller: Caller, auth: &[u8], nonce: Nonce, keep: bool) -> Waiting {
+pub fn reset(rt: &impl Abort, caller: Caller, auth: &[u8], by: &str, keep: bool) -> Waiting {
     let mut names = ArrayVec::new();
     names.push(name_of_handle(16));
     caller.seal(
@@ -77,7 +77,7 @@ pub fn reset(rt: &impl Abort, caller: Caller, auth: &[u8], nonce: Nonce, keep: b
         },
         names,
         auth,
-        nonce,
+        nonce(rt, by),
         keep,
     )
 }
@@ -142,31 +142,33 @@ pub fn event(rt: &impl Abort, caller: Caller, measured: &[u8]) -> Waiting {
     )
 }
 
+/// What waits sent these bytes.
+pub fn has_sent(rt: &impl Abort, waiting: &Waiting, expected: &str) {
+    assert!(rt;
+        waiting.bytes() == bytes(rt, expected).as_slice(),
+        "{expected}"
+    );
+}
+
 #[test]
 fn commands_are_sealed_as_python_does(rt: HostRuntime) {
-    let first = extend(&rt, bound(&rt), 0, nonce(&rt, FIRST));
-    assert!(rt; first.bytes() == bytes(&rt, EXTEND).as_slice());
-    let other = extend(&rt, bound(&rt), 17, nonce(&rt, FIRST));
-    assert!(rt; other.bytes() == bytes(&rt, EXTEND_17).as_slice());
+    has_sent(&rt, &extend(&rt, bound(&rt), 0, FIRST), EXTEND);
+    has_sent(&rt, &extend(&rt, bound(&rt), 17, FIRST), EXTEND_17);
 }
 
 #[test]
 fn a_trailing_zero_is_no_part_of_a_value(rt: HostRuntime) {
-    let expected = bytes(&rt, INCREMENT);
-    let sealed = increment(&rt, unbound(&rt), COUNTER_NAME, b"a");
-    assert!(rt; sealed.bytes() == expected.as_slice());
-    let padded = increment(&rt, unbound(&rt), COUNTER_NAME, b"a\0");
-    assert!(rt; padded.bytes() == expected.as_slice());
+    for auth in [b"a".as_slice(), b"a\0"] {
+        has_sent(
+            &rt,
+            &increment(&rt, unbound(&rt), COUNTER_NAME, auth),
+            INCREMENT,
+        );
+    }
 }
 
 #[test]
 fn a_key_may_be_longer_than_a_block(rt: HostRuntime) {
-    let waiting = reset(
-        &rt,
-        bound_by_sha1(&rt),
-        &[b'a'; 70],
-        nonce(&rt, SECOND),
-        true,
-    );
-    assert!(rt; waiting.bytes() == bytes(&rt, UNDER_A_LONG_KEY).as_slice());
+    let waiting = reset(&rt, bound_by_sha1(&rt), &[b'a'; 70], SECOND, true);
+    has_sent(&rt, &waiting, UNDER_A_LONG_KEY);
 }

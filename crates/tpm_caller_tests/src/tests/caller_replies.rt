@@ -1,11 +1,12 @@
 //! What is opened, and what is given up.
 
-use crate::tests::caller_commands::{EXTEND, FIRST, SECOND, extend, reset};
-use crate::tests::caller_sessions::{bound, bytes, nonce};
+use crate::tests::caller_commands::{EXTEND, FIRST, SECOND, extend, has_sent, reset};
+use crate::tests::caller_sessions::{bound, bytes};
 use std::process::Abort;
 use std::test::*;
 use tpm_caller::{Caller, CallerFault, Waiting};
 use tpm_commands::{ReplyBody, Response};
+use tpm_wire::Refusal;
 
 // The reply to the first extend of register 0, with the number 3 in 16 bytes as the new nonceTPM.
 const EXTENDED: &str =
@@ -32,7 +33,7 @@ const CUT: &str = "8002000000420000000000000000";
 const UNSIGNED: &str = "80010000000a00000000";
 
 fn first(rt: &impl Abort) -> Waiting {
-    extend(rt, bound(rt), 0, nonce(rt, FIRST))
+    extend(rt, bound(rt), 0, FIRST)
 }
 
 /// What the bytes are opened as: the caller, and what is answered in its one session.
@@ -66,9 +67,7 @@ pub fn given_up(rt: &impl Abort, waiting: Waiting, refusal: &[u8], code: u32) ->
     let (waiting, fault) = fault(rt, waiting, refusal);
     match fault {
         CallerFault::Code(error) => assert_eq!(rt; error.number(), code),
-        CallerFault::Refused(_) | CallerFault::NotExpected | CallerFault::WrongMac => {
-            panic!(rt; "no code")
-        }
+        _ => panic!(rt; "no code"),
     }
     waiting.give_up(refusal).ok().expect(rt, "given up")
 }
@@ -76,8 +75,8 @@ pub fn given_up(rt: &impl Abort, waiting: Waiting, refusal: &[u8], code: u32) ->
 #[test]
 fn the_next_command_is_sealed_with_the_new_nonce(rt: HostRuntime) {
     let caller = kept(&rt, first(&rt), bytes(&rt, EXTENDED).as_slice());
-    let waiting = reset(&rt, caller, &[], nonce(&rt, SECOND), false);
-    assert!(rt; waiting.bytes() == bytes(&rt, RESET).as_slice());
+    let waiting = reset(&rt, caller, &[], SECOND, false);
+    has_sent(&rt, &waiting, RESET);
     assert!(rt;
         opened(&rt, waiting, bytes(&rt, IS_RESET).as_slice())
             .0
@@ -88,19 +87,14 @@ fn the_next_command_is_sealed_with_the_new_nonce(rt: HostRuntime) {
 #[test]
 fn each_fault_leaves_the_waiting(rt: HostRuntime) {
     let (waiting, cut) = fault(&rt, first(&rt), bytes(&rt, CUT).as_slice());
-    assert!(rt;
-        match cut {
-            CallerFault::Refused(e) => (e.code, e.at) == (0x142, 2),
-            _ => false
-        }
-    );
+    assert!(rt; cut == CallerFault::Refused(Refusal { code: 0x142, at: 2 }));
     let (waiting, unsigned) = fault(&rt, waiting, bytes(&rt, UNSIGNED).as_slice());
     assert!(rt; unsigned == CallerFault::NotExpected);
     let (waiting, attributes) = fault(&rt, waiting, bytes(&rt, IS_RESET).as_slice());
     assert!(rt; attributes == CallerFault::WrongMac);
-    assert!(rt; waiting.bytes() == bytes(&rt, EXTEND).as_slice());
+    has_sent(&rt, &waiting, EXTEND);
     let caller = given_up(&rt, waiting, bytes(&rt, BAD_AUTH).as_slice(), 0x9A2);
-    let again = extend(&rt, caller, 0, nonce(&rt, FIRST));
+    let again = extend(&rt, caller, 0, FIRST);
     kept(&rt, again, bytes(&rt, EXTENDED).as_slice());
 }
 
