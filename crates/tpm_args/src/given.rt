@@ -173,8 +173,5 @@ fn not_text(alloc: Global) -> Result<Stop, AllocError>
 pub fn words_not_text(alloc: Global) -> Stop
     ensures { StopsFor InvalidValue result }
 {
-    match not_text(alloc) {
-        Ok(stop) => stop,
-        Err(AllocError) => Stop::Memory,
-    }
+    not_text(alloc).unwrap_or(Stop::Memory)
 }

@@ -1,10 +1,10 @@
 //! The words of the subcommand `show`.
 
-ghost use Rattle.std.specs.Prelude.{◌≡◌, ◌≢◌, [], ◌∷◌, IfOk, None, Some, codes, option_map};
+ghost use Rattle.std.specs.Prelude.{◌≡◌, ◌≢◌, [], ◌∷◌, IfOk, MatchBool, None, Some, codes, option_map};
 ghost use Rattle.clap.specs.Words.{first_value, found_of};
 ghost use Rattle.tpm_args.specs.inner.Stop.{AsksIfAny, IsAsked, IsMemoryOr};
 ghost use Rattle.tpm_args.specs.Task.{IsInput};
-ghost use Rattle.tpm_args.specs.inner.Task.{HasNone};
+ghost use Rattle.tpm_args.specs.inner.Task.{HasNone, IsPlain};
 
 use crate::given::{form_asked, has, is_given};
 use crate::invalid::{Usage, invalid_value, no_command, wrong_words};
@@ -19,18 +19,21 @@ use tpm_options::{CaptureTask, PacketsTask};
 /// The port of a simulator where none is given: mssim's for commands, and swtpm's for data.
 const PORT: &str = "2321";
 
+// Whether no word is given that is of a buffer or of a capture alone.
+fn is_plain(words: &ArgMatches<'_>) -> bool
+    ensures { MatchBool result (IsPlain (first_value (found_of words.now)))
+        (IsPlain (first_value (found_of words.now)) → ⊥) }
+{
+    !has(words, "HEX") && !has(words, "file") && !has(words, "reply") && !is_given(words, "binary")
+}
+
 // Packets, in this file. None where another of a buffer and three files is given, where they are to be read as a
 // response or as a stream, and where the port is no number of one.
 fn shown_packets<'a>(words: &ArgMatches<'a>, file: &'a str) -> Option<Task<'a>>
     requires { first_value (found_of words.now) (codes "pcap") ≡ Some file.now }
     ensures { AsksIfAny (codes "show") words.now result }
 {
-    if words.get_str("HEX").is_some()
-        || words.get_str("file").is_some()
-        || words.get_str("nv").is_some()
-        || words.get_str("reply").is_some()
-        || is_given(words, "binary")
-    {
+    if !is_plain(words) || has(words, "nv") {
         return None;
     }
     Some(Task::ShowPackets(PacketsTask {
@@ -81,18 +84,13 @@ fn shown_capture<'a>(words: &ArgMatches<'a>, file: Option<&'a str>) -> Option<Ta
     }))
 }
 
-// Kept NV memory. None where it is to be told by another option.
+// Kept NV memory. None where another word is given.
 fn shown_memory<'a>(words: &ArgMatches<'a>, file: &'a str) -> Option<Task<'a>>
     requires file { first_value (found_of words.now) (codes "nv") ≡ Some file.now }
-    requires alone { HasNone (first_value (found_of words.now))
-        (codes "HEX" ∷ codes "file" ∷ codes "pcap" ∷ codes "port" ∷ []) }
+    requires alone { HasNone (first_value (found_of words.now)) (codes "pcap" ∷ codes "port" ∷ []) }
     ensures { AsksIfAny (codes "show") words.now result }
 {
-    if words.get_str("reply").is_some()
-        || is_given(words, "fields")
-        || is_given(words, "binary")
-        || is_given(words, "json")
-    {
+    if !is_plain(words) || is_given(words, "fields") || is_given(words, "json") {
         return None;
     }
     Some(Task::ShowNv { file })
@@ -109,36 +107,36 @@ fn shown<'a>(words: &ArgMatches<'a>) -> Option<Task<'a>>
     if words.get_str("port").is_some() {
         return None;
     }
+    if let Some(file) = words.get_str("nv") {
+        return shown_memory(words, file);
+    }
     let file = words.get_str("file");
-    match (words.get_str("HEX"), file, words.get_str("nv")) {
-        (Some("-"), None, None) | (None, Some(_), None) => shown_capture(words, file),
-        (Some(hex), None, None) => shown_buffer(words, hex),
-        (None, None, Some(file)) => shown_memory(words, file),
+    match (words.get_str("HEX"), file) {
+        (Some("-"), None) | (None, Some(_)) => shown_capture(words, file),
+        (Some(hex), None) => shown_buffer(words, hex),
         _ => None,
     }
 }
 
 // Why they ask for nothing.
 fn fault(words: &ArgMatches<'_>) -> &'static str {
-    let file = words.get_str("file");
-    match (
-        words.get_str("pcap"),
-        words.get_str("nv"),
-        words.get_str("HEX"),
-        file,
-    ) {
-        (None, ..) if has(words, "port") => "--port <N> goes with --pcap <FILE>",
-        (None, None, None, None) => {
+    let pcap = has(words, "pcap");
+    if !pcap & has(words, "port") {
+        return "--port <N> goes with --pcap <FILE>";
+    }
+    let hex = words.get_str("HEX");
+    match (pcap, has(words, "nv"), has(words, "file"), hex) {
+        (false, false, false, None) => {
             "one of HEX, -, --file <FILE>, --pcap <FILE> and --nv <FILE> is wanted"
         }
-        (Some(_), None, None, None) => {
+        (true, false, false, None) => {
             "--pcap <FILE> goes with --port <N>, --fields and --json alone"
         }
-        (None, Some(_), None, None) => "--nv <FILE> goes with no other option",
-        (None, None, Some("-"), None) | (None, None, None, Some(_)) => {
+        (false, true, false, None) => "--nv <FILE> goes with no other option",
+        (false, false, true, None) | (false, false, false, Some("-")) => {
             "--reply <NAME> goes with HEX alone, since a capture tells replies by its marks"
         }
-        (None, None, Some(_), None) => "--binary and --json want a capture: - or --file <FILE>",
+        (false, false, false, _) => "--binary and --json want a capture: - or --file <FILE>",
         _ => "only one of HEX, -, --file <FILE>, --pcap <FILE> and --nv <FILE> is wanted",
     }
 }
@@ -146,11 +144,10 @@ fn fault(words: &ArgMatches<'_>) -> &'static str {
 fn not_shown(usage: Usage, words: &ArgMatches<'_>) -> Result<Stop, AllocError>
     ensures { IfOk result (IsMemoryOr (Unit {0})) }
 {
-    match (words.get_str("reply"), words.get_str("port")) {
-        (Some(name), _) if command_named(name).is_none() => {
-            no_command(usage, name, "--reply <NAME>")
-        }
-        (_, Some(text)) if port(text).is_none() => {
+    let text = words.get_str("port").unwrap_or(PORT);
+    match words.get_str("reply") {
+        Some(name) if command_named(name).is_none() => { no_command(usage, name, "--reply <NAME>") }
+        _ if port(text).is_none() => {
             let reason = "it is no decimal number up to 65535";
             invalid_value(usage, text, "--port <N>", reason)
         }
