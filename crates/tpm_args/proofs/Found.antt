@@ -1,4 +1,5 @@
 -- What was found in the words, by the getters and by the matches.
+use mathlib.Core.Path.{fun_ext}
 use Rattle.std.proofs.Common.{◌≡◌, ap, sym, subst, refl, ◌∙◌, Bool, true, false, inl, inr, codes, List, [], map, ◌⊎◌}
 use Rattle.std.proofs.Common.{Option, Some, None, option_map}
 use Rattle.std.specs.Prelude.{◌&&◌, not, is_some, Box, Result, Ok, Err, IfOk, IfErr, MatchResult}
@@ -120,40 +121,25 @@ pub no_header_alone : (value : Text → Option Text) → is_given (value (codes 
 no_header_alone value given others =
     asks_no_events value (λ task h. opposite_ends (sym given ∙ h.2)) (λ task h. opposite_ends (sym h.3 ∙ others))
 
--- the same task, by values that agree
-agrees : (name : Text) (v w : Text → Option Text) → ((id : Text) → v id ≡ w id) → (t : Task) → AsksWith name v t → AsksWith name w t
-agrees name v w same (Show reply fields hex) h = simp same at h
-agrees name v w same (ShowCapture task) h = simp same at h
-agrees name v w same (ShowPackets task) h = simp same at h
-agrees name v w same (ShowNv file) h = simp same at h
-agrees name v w same (Build code handles sessions parameters) h = simp same at h
-agrees name v w same (Run owner greatest) h = simp same at h
-agrees name v w same (Explain code) h = simp same at h
-agrees name v w same (ExplainName word) h = simp same at h
-agrees name v w same (Check task) h = simp same at h
-agrees name v w same (CheckListed task) h = simp same at h
-agrees name v w same (EventsHeader task) h = simp same at h
-agrees name v w same (Events task) h = simp same at h
+-- the values of the words, by their rows
+values : (f : Found) (rows : List Row) → rows ≡ rows_of f → (λ id. first_of id rows) ≡ first_value f
+values f rows is = fun_ext (λ id. ap (first_of id) is ∙ sym (first_value-rows f id))
 
 met : (o : Option (Text × List Row)) (name : Text) (f : Found) (t : Task) → option_map
     (λ (p : Text × List Row). p.0) o ≡ Some name → option_map (λ (p : Text × List Row). p.1) o ≡ Some (rows_of f)
     → AsksWith name (first_value f) t → Asks o t
 met None name f t n r h = absurd (let z : ⊥ = cc in z)
 met (Some p) name f t n r h =
-    let named : name ≡ p.0 = sym (some p.0 name n) in
-    let rows : rows_of f ≡ p.1 = sym (some p.1 (rows_of f) r) in
-    subst (λ (x : Text). AsksWith x (λ id. first_of id p.1) t) named
-    (agrees name (first_value f) (λ id. first_of id p.1) (λ id. first_value-rows f id ∙ ap (first_of id) rows) t h)
+    subst (λ (x : Text). AsksWith x (λ id. first_of id p.1) t) (sym (some p.0 name n))
+    (subst (λ (value : Text → Option Text). AsksWith name value t) (sym (values f p.1 (some p.1 (rows_of f) r))) h)
 
 met_back : (o : Option (Text × List Row)) (name : Text) (f : Found) (t : Task) → option_map
     (λ (p : Text × List Row). p.0) o ≡ Some name → option_map (λ (p : Text × List Row). p.1) o ≡ Some (rows_of f)
     → Asks o t → AsksWith name (first_value f) t
 met_back None name f t n r h = absurd h
 met_back (Some p) name f t n r h =
-    let named : p.0 ≡ name = some p.0 name n in
-    let rows : rows_of f ≡ p.1 = sym (some p.1 (rows_of f) r) in
-    subst (λ (x : Text). AsksWith x (first_value f) t) named
-    (agrees p.0 (λ id. first_of id p.1) (first_value f) (λ id. sym (first_value-rows f id ∙ ap (first_of id) rows)) t h)
+    subst (λ (value : Text → Option Text). AsksWith name value t) (values f p.1 (some p.1 (rows_of f) r))
+    (subst (λ (x : Text). AsksWith x (λ id. first_of id p.1) t) (some p.0 name n) h)
 
 name_in : {Z : Type 0} (o : Option (Box SubCommand Z)) → option_map (λ (p : Text × List Row). p.0) (subcommand_rows o)
     ≡ option_map (λ (b : Box SubCommand Z). (out-SubCommand (box_value b)).name.now) o

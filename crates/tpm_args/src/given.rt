@@ -87,10 +87,7 @@ impl Words {
 pub(crate) fn is_given(words: &ArgMatches<'_>, name: &str) -> bool
     ensures { result ≡ is_given_by (first_value (found_of words.now) name.now) }
 {
-    match words.get_str(name) {
-        Some(text) => text == "true",
-        None => false,
-    }
+    words.get_str(name).unwrap_or("") == "true"
 }
 
 /// How what is printed is told.
