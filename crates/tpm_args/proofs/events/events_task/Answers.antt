@@ -1,4 +1,4 @@
-use Rattle.std.proofs.Common.{rules, ◌≡◌, codes, option_map}
+use Rattle.std.proofs.Common.{rules, ◌≡◌, codes, option_map, refl}
 use Rattle.std.proofs.lemmas.Result.{err_from_is_err_and}
 use Rattle.clap.specs.Words.{first_value, found_of}
 use Rattle.tpm_args.proofs.Found.{memory_or, no_registers, not_listed}
@@ -16,3 +16,6 @@ returns-in_err-options c =
     let value = first_value (found_of c.args.words.now) in
     let p = err_from_is_err_and c.from_residual-in_err-options.result c.from_residual-in_err-options.ensures.1 in
     rw (p.1, p.2) (memory_or c.in_err-options.field-0.0 (not_listed value) c.in_err-options.ensures)
+
+pub returns : goal.returns
+returns c = (refl, c.in_ok-options.ensures, search rules, search rules, search rules, c.listing.ensures)
