@@ -110,17 +110,13 @@ silent_both a (x ∷ xs) ys is =
     rw (is, some, any) refl
 
 -- The last piece: what is told with it is told whatever comes behind it, or nothing comes.
-pub last_told : (how : Telling) (port : ℕ) (p q r : FilePlace) (bytes piece : List ℕ) (before told : List Entry) (b d : Capture)
-    (A : List ℕ → Type 0) (status : Status) (text : List ℕ)
+pub last_told : (p q r : FilePlace) (bytes piece : List ℕ) (before told : List Entry) (b d : Capture) (A : List ℕ → Type 0)
     → TellsSoFar (record { first = p; bytes = bytes; last = q; told = before }) b d A
     → TakesPiece (record { old = q; piece = piece; new = r; told = told }) false
-    → TellsTraffic how port (Entries (before ++ told)) status text
-    → (rest : List ℕ) → (piece ≡ [] → rest ≡ []) → TellsTraffic how port (Entries (left_told p ((bytes ++ piece) ++ rest))) status text
-last_told how port p q r bytes piece before told b d A status text f takes tells rest end =
-    let is : left_told p ((bytes ++ piece) ++ rest) ≡ before ++ told =
+    → (rest : List ℕ) → (piece ≡ [] → rest ≡ []) → left_told p ((bytes ++ piece) ++ rest) ≡ before ++ told
+last_told p q r bytes piece before told b d A f takes rest end =
     ap (λ (l : List ℕ). left_told p l) (append_assoc bytes piece rest) ∙ f.left (piece ++ rest)
-    ∙ ap (λ (others : List Entry). before ++ others) (takes.0 rest end) in
-    subst (λ (entries : List Entry). TellsTraffic how port (Entries entries) status text) (sym is) tells
+    ∙ ap (λ (others : List Entry). before ++ others) (takes.0 rest end)
 
 -- ---- what was read
 
@@ -226,21 +222,21 @@ module _ (how : Telling) (port : ℕ) (old mid : Option (List ℕ)) (head : List
   -- the rest of a file that is a capture
   pub of_rest : (file : FilePlace) (most : ℕ) (new : Option (List ℕ))
       → ((rest : List ℕ) → IsHead head rest → Entries (left_told file rest) ≡ traffic_in port (head ++ rest))
-      → (length head < 24 → most ≡ 0) → (24 ≤ length head → most ≡ 1073741800)
-      → OfReadUpTo most mid new (λ (bytes : List ℕ). TellsTraffic how port (Entries (left_told file bytes)) status text)
-      → OfReadUpTo most_packets old new Told
-  of_rest file most new told short long s = go (cases_lt (length head) 24) read.whole
+      → (length head < 24 → most ≡ 0) → (24 ≤ length head → most ≡ 1073741800) → (entries : List Entry)
+      → OfReadUpTo most mid new (λ (bytes : List ℕ). left_told file bytes ≡ entries)
+      → TellsTraffic how port (Entries entries) status text → OfReadUpTo most_packets old new Told
+  of_rest file most new told short long entries s tells = go (cases_lt (length head) 24) read.whole
     where
-      holds : (rest : List ℕ) → IsHead head rest → TellsTraffic how port (Entries (left_told file rest)) status text
-          → Told (head ++ rest)
-      holds rest h tells = subst (λ (u : Traffic). TellsTraffic how port u status text) (told rest h) tells
+      holds : (rest : List ℕ) → IsHead head rest → left_told file rest ≡ entries → Told (head ++ rest)
+      holds rest h same =
+          subst (λ (u : Traffic). TellsTraffic how port u status text) (sym (ap (λ (l : List Entry). Entries l) same) ∙ told rest h) tells
 
       from_mid : (a b : Option (List ℕ)) → Consumes a b head → OnSome b (IsAtEnd new) → OnSome a (IsAtEnd new)
       from_mid None b first e = tt
       from_mid (Some l) None first e = absurd first
       from_mid (Some l) (Some m) first e = e
 
-      whole : 24 ≤ length head → IsWhole (λ (bytes : List ℕ). TellsTraffic how port (Entries (left_told file bytes)) status text) mid new most s.bytes
+      whole : 24 ≤ length head → IsWhole (λ (bytes : List ℕ). left_told file bytes ≡ entries) mid new most s.bytes
           → IsWhole Told old new most_packets (head ++ s.bytes)
       whole many (inl e) = inl (from_mid old mid read.read e)
       whole many (inr (inl e)) = inr (inl (omega (arith, e, many, read.most, long many, length-append head s.bytes)))

@@ -22,7 +22,6 @@ pub(crate) fn tell_parameters<T: Teller>(teller: &mut T, bytes: &[u8]) -> Pushed
 }
 
 /// Tells what stands behind a command's header: its handles, its sessions, and its parameters as they came.
-#[tactic(auto, using(crate::proofs::Pieces::pieces))]
 pub(crate) fn tell_areas<T: Teller>(
     teller: &mut T,
     handles: &[u32],

@@ -44,6 +44,7 @@ pub(crate) const MOST_BYTES: usize = 4_611_686_018_427_387_904;
 /// A capture that is being told.
 #[derive(Drop)]
 pub(crate) struct Capture {
+    pub(crate) alloc: Global,
     pub(crate) how: Telling,
     // the number of the next frame
     pub(crate) number: u64,
@@ -85,11 +86,12 @@ fn tell_front<T: Teller>(teller: &mut T, number: u64, direction: Direction) -> P
 
 impl Capture {
     /// A capture of which nothing is told.
-    pub(crate) fn new(how: Telling) -> Self
+    pub(crate) fn new(alloc: Global, how: Telling) -> Self
         ensures place { place result ≡ start how }
         ensures status { result.status ≡ Done }
     {
         Capture {
+            alloc,
             how,
             number: 1,
             awaited: Awaited::Nothing,
@@ -108,7 +110,7 @@ impl Capture {
         self.status = self.status.both(status);
     }
 
-    fn tell_fault(&mut self, alloc: Global, text: &mut String, fault: &'static str) -> Pushed
+    fn tell_fault(&mut self, text: &mut String, fault: &'static str) -> Pushed
         requires { self.old.number + 1 < 2 ^ 64 }
         ensures { OnOk result ((report : List ℕ)
             × IsReport self.old.how.form false (numbered_told self.old.number fault.now) report
@@ -116,7 +118,7 @@ impl Capture {
             × Passes self.old Unknown Refused self.new) }
     {
         let remark = Remark::Fault(self.number, fault);
-        push_remark(alloc, text, self.how.form, remark)?;
+        push_remark(self.alloc, text, self.how.form, remark)?;
         self.pass(Awaited::Unknown, Status::Refused);
         Ok(())
     }
@@ -136,7 +138,6 @@ impl Capture {
     #[tactic(auto, using(crate::proofs::Pieces::pieces))]
     fn push_lines<const FIELDS: bool>(
         &self,
-        alloc: Global,
         direction: Direction,
         bytes: &[u8],
         text: &mut String,
@@ -147,7 +148,7 @@ impl Capture {
             × (string_bytes text.new ≡ string_bytes text.old
             ++ in_lines FIELDS (front self.now.number direction ++ pieces))) }
     {
-        let mut lines = Lines::<FIELDS>::new(alloc);
+        let mut lines = Lines::<FIELDS>::new(self.alloc);
         tell_front(&mut lines, self.number, direction)?;
         let status = tell_frame(&mut lines, direction, self.frame_at(bytes))?;
         text.push_str(lines.text.as_str())?;
@@ -158,7 +159,6 @@ impl Capture {
     #[tactic(auto, using(crate::proofs::Pieces::pieces), unfolding(crate::specs::FrameJson::object_of))]
     fn push_object(
         &self,
-        alloc: Global,
         direction: Direction,
         bytes: &[u8],
         text: &mut String,
@@ -169,7 +169,7 @@ impl Capture {
             × IsObjectLine (object_of (front self.now.number direction ++ pieces)) line
             × (string_bytes text.new ≡ string_bytes text.old ++ line)) }
     {
-        let mut object = Object::begin(alloc)?;
+        let mut object = Object::begin(self.alloc)?;
         tell_front(&mut object, self.number, direction)?;
         let status = tell_frame(&mut object, direction, self.frame_at(bytes))?;
         object.end_line(text)?;
@@ -179,7 +179,6 @@ impl Capture {
     // Adds what is told of a frame.
     fn push_frame(
         &self,
-        alloc: Global,
         direction: Direction,
         bytes: &[u8],
         text: &mut String,
@@ -192,16 +191,15 @@ impl Capture {
             × (string_bytes text.new ≡ string_bytes text.old ++ report)) }
     {
         match (self.how.form, self.how.fields) {
-            (Form::Json, _) => self.push_object(alloc, direction, bytes, text),
-            (Form::Lines, true) => self.push_lines::<true>(alloc, direction, bytes, text),
-            (Form::Lines, false) => self.push_lines::<false>(alloc, direction, bytes, text),
+            (Form::Json, _) => self.push_object(direction, bytes, text),
+            (Form::Lines, true) => self.push_lines::<true>(direction, bytes, text),
+            (Form::Lines, false) => self.push_lines::<false>(direction, bytes, text),
         }
     }
 
     /// Takes a frame, and adds what is told of it.
     pub(crate) fn tell_frame(
         &mut self,
-        alloc: Global,
         mark: Option<Direction>,
         bytes: &[u8],
         text: &mut String,
@@ -211,33 +209,27 @@ impl Capture {
             (AddedTo (string_bytes text.old) (string_bytes text.new))) }
     {
         let direction = direction_of(mark, self.awaited, bytes);
-        let status = self.push_frame(alloc, direction, bytes, text)?;
+        let status = self.push_frame(direction, bytes, text)?;
         self.pass(awaited_behind(direction, bytes), status);
         Ok(())
     }
 
-    fn tell(&mut self, alloc: Global, line: &CaptureLine, text: &mut String) -> Pushed
+    fn tell(&mut self, line: &CaptureLine, text: &mut String) -> Pushed
         requires { self.old.number + 1 < 2 ^ 64 }
         ensures { OnOk result (TellsNext (read_as line.now) self.old self.new
             (AddedTo (string_bytes text.old) (string_bytes text.new))) }
     {
         match line {
             CaptureLine::Nothing => Ok(()),
-            CaptureLine::Frame(mark, bytes) => self.tell_frame(
-                alloc,
-                *mark,
-                bytes.as_slice(),
-                text,
-            ),
-            CaptureLine::NotHexadecimal => self.tell_fault(alloc, text, "not hexadecimal"),
-            CaptureLine::TooLong => self.tell_fault(alloc, text, "too long"),
+            CaptureLine::Frame(mark, bytes) => self.tell_frame(*mark, bytes.as_slice(), text),
+            CaptureLine::NotHexadecimal => self.tell_fault(text, "not hexadecimal"),
+            CaptureLine::TooLong => self.tell_fault(text, "too long"),
         }
     }
 
     /// Takes a frame without a mark, and prints what is told of it.
     pub(crate) fn print_frame<W: Write>(
         &mut self,
-        alloc: Global,
         bytes: &[u8],
         out: &mut W,
     ) -> Result<(), ToolFault>
@@ -246,8 +238,8 @@ impl Capture {
             (Appends (W.contents out.old) (W.contents out.new))) }
         ensures err { FailsByMemoryOrWrite result }
     {
-        let mut text = String::new(alloc);
-        self.tell_frame(alloc, None, bytes, &mut text)?;
+        let mut text = String::new(self.alloc);
+        self.tell_frame(None, bytes, &mut text)?;
         write(out, &text)
     }
 }
@@ -282,7 +274,7 @@ impl LineSink for Capture {
         text: &mut String,
     ) -> Result<bool, AllocError> {
         let line = read_line(alloc, line)?;
-        self.tell(alloc, &line, text)?;
+        self.tell(&line, text)?;
         Ok(true)
     }
 }
@@ -354,7 +346,7 @@ pub fn show_lines<R: Source, W: Write>(
     ensures too_long { IsErrOf result InputTooLong
         → ReadsTooMuchCapture (R.coming input.old) (R.coming input.new) }
 {
-    match take_lines(alloc, input, out, Capture::new(how), MOST_BYTES)? {
+    match take_lines(alloc, input, out, Capture::new(alloc, how), MOST_BYTES)? {
         Some(capture) => Ok(capture.status),
         None => unreachable!(),
     }

@@ -56,7 +56,7 @@ pub fn show_stream<R: Source, W: Write>(
     ensures too_long { IsErrOf result InputTooLong
         → ReadsTooMuchCapture (R.coming input.old) (R.coming input.new) }
 {
-    let mut capture = Capture::new(how);
+    let mut capture = Capture::new(alloc, how);
     let mut frame = Buffer::new();
     let mut read = 0;
     loop {
@@ -85,6 +85,6 @@ pub fn show_stream<R: Source, W: Write>(
         if read > MOST_BYTES {
             return Err(ToolFault::InputTooLong);
         }
-        capture.print_frame(alloc, frame.as_slice(), out)?;
+        capture.print_frame(frame.as_slice(), out)?;
     }
 }

@@ -27,6 +27,20 @@ impl<const NAMES: bool> Lines<NAMES> {
             text: String::new(alloc),
         }
     }
+
+    fn say(&mut self, how: How, name: Option<&str>, value: &Value<'_>) -> Pushed
+        ensures { OnOk result (string_bytes self.new.text ≡ string_bytes self.old.text
+            ++ said how NAMES (option_map (λ n. n.now) name.entry) (as_value value.now)) }
+    {
+        let text = &mut self.text;
+        match (how, NAMES) {
+            (How::Alone, _) => push_value(text, value),
+            (How::Behind, _) | (How::Asked, true) => push_behind(text, " ", value),
+            (How::FurtherAsked, true) => push_behind(text, ",", value),
+            (How::Under, _) => push_under(text, name, value),
+            (How::Asked | How::FurtherAsked, false) | (How::Nowhere, _) => Ok(()),
+        }
+    }
 }
 
 /// Adds a response code in its digits.
@@ -73,25 +87,6 @@ fn push_under(text: &mut String, name: Option<&str>, value: &Value<'_>) -> Pushe
     }
 }
 
-fn push_said(
-    text: &mut String,
-    how: How,
-    names: bool,
-    name: Option<&str>,
-    value: &Value<'_>,
-) -> Pushed
-    ensures { OnOk result (string_bytes text.new ≡ string_bytes text.old
-        ++ said how names (option_map (λ n. n.now) name.entry) (as_value value.now)) }
-{
-    match (how, names) {
-        (How::Alone, _) => push_value(text, value),
-        (How::Behind, _) | (How::Asked, true) => push_behind(text, " ", value),
-        (How::FurtherAsked, true) => push_behind(text, ",", value),
-        (How::Under, _) => push_under(text, name, value),
-        (How::Asked | How::FurtherAsked, false) | (How::Nowhere, _) => Ok(()),
-    }
-}
-
 impl<const NAMES: bool> Teller for Lines<NAMES> {
     ghost Mark = { ℕ };
 
@@ -105,8 +100,8 @@ impl<const NAMES: bool> Teller for Lines<NAMES> {
 
     fn tell(&mut self, piece: &Piece<'_>) -> Pushed {
         match piece {
-            Piece::Says(how, name, value) => push_said(&mut self.text, *how, NAMES, *name, value),
-            Piece::InLine(how, value) => push_said(&mut self.text, *how, NAMES, None, value),
+            Piece::Says(how, name, value) => self.say(*how, *name, value),
+            Piece::InLine(how, value) => self.say(*how, None, value),
             Piece::Opens(_, _) | Piece::Closes(_) => Ok(()),
         }
     }

@@ -1,15 +1,14 @@
 //! The subcommand `show` of the packets of a network.
 
-ghost use Rattle.std.specs.Prelude.{◌≡◌, ◌+◌, ◌^◌, ◌<◌, ◌≤◌, ℕ, List, length, IfOk, IsErrOf, OnOk};
+ghost use Rattle.std.specs.Prelude.{◌≡◌, ◌==◌, ◌+◌, ◌^◌, ◌<◌, ◌≤◌, ℕ, List, length, IfOk, IsErrOf, OnOk};
 ghost use Rattle.std.specs.Prelude.{string_bytes};
 ghost use Rattle.std.specs.Io.KnownBytes.{Appends};
-ghost use Rattle.tpm_pcap.specs.Entries.{entry_as, entries_as};
-ghost use Rattle.tpm_pcap.specs.Files.{Entries, left_told};
+ghost use Rattle.tpm_pcap.specs.Entries.{Entry as WentOver, entry_as, entries_as};
+ghost use Rattle.tpm_pcap.specs.Files.{left_told};
 ghost use Rattle.tpm_output.specs.declared.fault.ToolFault.TheVariants.{InputTooLong};
 ghost use Rattle.tpm_output.specs.Faults.{FailsByMemoryOrWrite};
 ghost use Rattle.tpm_output.specs.InputLines.{AddedTo, CountsRead};
 ghost use Rattle.tpm_show.specs.Packets.{awaited_past, most_packets, OfReadUpTo, reason_text, TellsPackets};
-ghost use Rattle.tpm_show.specs.Packets.{TellsTraffic};
 ghost use Rattle.tpm_show.specs.inner.PacketsTold.{TellsMany, TellsOne};
 
 use crate::capture::Capture;
@@ -63,7 +62,7 @@ fn awaited_past(reason: Reason, awaited: Awaited) -> Awaited
 // ---- what went over the port
 
 // Takes what went over the port, and adds what is told of it.
-fn tell_entry(alloc: Global, capture: &mut Capture, entry: &Entry, text: &mut String) -> Pushed
+fn tell_entry(capture: &mut Capture, entry: &Entry, text: &mut String) -> Pushed
     requires number { capture.old.number + 1 < 2 ^ 64 }
     requires connection { capture.old.passage.connection + 1 < 2 ^ 64 }
     ensures { OnOk result (TellsOne (entry_as entry.now) capture.old capture.new
@@ -77,15 +76,15 @@ fn tell_entry(alloc: Global, capture: &mut Capture, entry: &Entry, text: &mut St
         }
         Entry::Command(stamp, bytes) => {
             capture.passage.stamp = Some(*stamp);
-            capture.tell_frame(alloc, Some(Direction::Command), bytes.as_slice(), text)
+            capture.tell_frame(Some(Direction::Command), bytes.as_slice(), text)
         }
         Entry::Reply(stamp, bytes) => {
             capture.passage.stamp = Some(*stamp);
-            capture.tell_frame(alloc, Some(Direction::Reply), bytes.as_slice(), text)
+            capture.tell_frame(Some(Direction::Reply), bytes.as_slice(), text)
         }
         Entry::Untold(packet, reason) => {
             let remark = Remark::Packet(*packet, reason_text(*reason));
-            push_remark(alloc, text, capture.how.form, remark)?;
+            push_remark(capture.alloc, text, capture.how.form, remark)?;
             capture.awaited = awaited_past(*reason, capture.awaited);
             capture.status = Status::Refused;
             Ok(())
@@ -94,26 +93,20 @@ fn tell_entry(alloc: Global, capture: &mut Capture, entry: &Entry, text: &mut St
 }
 
 // Takes one entry, and prints what is told of it.
-fn print_entry<W: Write>(
-    alloc: Global,
-    capture: &mut Capture,
-    entry: &Entry,
-    out: &mut W,
-) -> Result<(), ToolFault>
+fn print_entry<W: Write>(capture: &mut Capture, entry: &Entry, out: &mut W) -> Result<(), ToolFault>
     requires number { capture.old.number + 1 < 2 ^ 64 }
     requires connection { capture.old.passage.connection + 1 < 2 ^ 64 }
     ensures ok { OnOk result (TellsOne (entry_as entry.now) capture.old capture.new
         (Appends (W.contents out.old) (W.contents out.new))) }
     ensures err { FailsByMemoryOrWrite result }
 {
-    let mut text = String::new(alloc);
-    tell_entry(alloc, capture, entry, &mut text)?;
+    let mut text = String::new(capture.alloc);
+    tell_entry(capture, entry, &mut text)?;
     write(out, &text)
 }
 
 // Prints what is told of these, one after the other.
 fn print_entries<W: Write>(
-    alloc: Global,
     capture: &mut Capture,
     entries: &[Entry],
     out: &mut W,
@@ -125,54 +118,50 @@ fn print_entries<W: Write>(
     ensures err { FailsByMemoryOrWrite result }
 {
     for entry in entries {
-        print_entry(alloc, capture, entry, out)?;
+        print_entry(capture, entry, out)?;
     }
     Ok(())
 }
 
 // ---- a file
 
-// Prints what is told of the packets that come, of which no more bytes are read than so many, or that nothing went over
+// Prints what is told of the packets that come, of which no more bytes are read than so many. Whether nothing went over
 // the port.
-fn print_packets<R: Source, W: Write>(
-    alloc: Global,
+fn print_traffic<R: Source, W: Write>(
+    capture: &mut Capture,
     input: &mut R,
     out: &mut W,
-    port: u16,
-    how: Telling,
     mut file: PacketFile,
     most: usize,
-) -> Result<Status, ToolFault>
+) -> Result<bool, ToolFault>
+    requires number { capture.old.number ≡ 1 }
+    requires connection { capture.old.passage.connection ≡ 0 }
     requires few { file.reader.packet + length file.held ≤ 25 }
     requires most { most ≤ most_packets }
     ensures failures { CountsRead (R.failed input.old) (R.failed input.new) result }
-    ensures ok { IfOk result (λ status. (text : List ℕ)
-        × OfReadUpTo most (R.coming input.old) (R.coming input.new) (λ bytes.
-        TellsTraffic how port (Entries (left_told file bytes)) status text)
-        × Appends (W.contents out.old) (W.contents out.new) text) }
+    ensures ok { IfOk result (λ silent. (told : List WentOver)
+        × OfReadUpTo most (R.coming input.old) (R.coming input.new)
+        (λ bytes. left_told file bytes ≡ told)
+        × TellsMany told capture.old capture.new (Appends (W.contents out.old) (W.contents out.new))
+        × (silent ≡ (length told == 0))) }
     ensures short { IsErrOf result InputTooLong → ⊥ }
 {
-    let mut capture = Capture::new(how);
-    let mut entries = Vec::new(alloc);
+    let mut entries = Vec::new(capture.alloc);
     let mut piece = [0; PIECE];
     let mut left = most;
     let mut silent = true;
     loop {
         let room = left.min(PIECE);
         let count = input.read(&mut piece[..room])?;
-        let more = file.take(alloc, &piece[..count], &mut entries)?;
-        print_entries(alloc, &mut capture, entries.as_slice(), out)?;
+        let more = file.take(capture.alloc, &piece[..count], &mut entries)?;
+        print_entries(capture, entries.as_slice(), out)?;
         silent = silent && entries.is_empty();
         if !more {
-            break;
+            return Ok(silent);
         }
         entries.clear();
         left -= count;
     }
-    if silent {
-        return print_remark(alloc, how.form, Remark::NoPacket(port), out);
-    }
-    Ok(capture.status)
 }
 
 /// Prints what `show` prints of each frame that went over this port of a TPM simulator, or what `show --fields` prints,
@@ -230,7 +219,12 @@ pub fn show_packets<R: Source, W: Write>(
             } else {
                 MOST_PACKETS - HEAD
             };
-            print_packets(alloc, input, out, port, how, file, most)
+            let mut capture = Capture::new(alloc, how);
+            let silent = print_traffic(&mut capture, input, out, file, most)?;
+            if silent {
+                return print_remark(alloc, how.form, Remark::NoPacket(port), out);
+            }
+            Ok(capture.status)
         }
     }
 }

@@ -9,9 +9,7 @@ use Rattle.tpm_show.proofs.fields.tell_command_fields.Goals as goal
 pub returns-in_ok-tell-in-NvDefineSpace : goal.returns-in_ok-tell-in-NvDefineSpace
 unfolding nv_define_space
 returns-in_ok-tell-in-NvDefineSpace g c =
-    let written = simp (c.in_ok-tell-in-NvDefineSpace.ensures) at c.tell_structure.ensures in
-    let joined = simp pieces at written in
-    rw c.in-NvDefineSpace.is (simp pieces joined)
+    rw c.in-NvDefineSpace.is (simp pieces (simp (c.in_ok-tell-in-NvDefineSpace.ensures, pieces) at c.tell_structure.ensures))
 
 pub returns-in-Startup : goal.returns-in-Startup
 unfolding startup
@@ -19,10 +17,7 @@ returns-in-Startup g c = rw c.in-Startup.is (simp pieces c.tell-in-Startup.ensur
 
 pub returns-in_ok-tell-in-NvRead : goal.returns-in_ok-tell-in-NvRead
 unfolding nv_read
-returns-in_ok-tell-in-NvRead g c =
-    let written = simp (c.in_ok-tell-in-NvRead.ensures) at c.tell-in-NvRead-2.ensures in
-    let joined = simp pieces at written in
-    rw c.in-NvRead.is (simp pieces joined)
+returns-in_ok-tell-in-NvRead g c = rw c.in-NvRead.is (simp pieces (simp (c.in_ok-tell-in-NvRead.ensures, pieces) at c.tell-in-NvRead-2.ensures))
 
 pub returns-in-FlushContext : goal.returns-in-FlushContext
 unfolding flush_context
@@ -30,28 +25,20 @@ returns-in-FlushContext g c = rw c.in-FlushContext.is (simp pieces c.tell-in-Flu
 
 pub returns-in-PolicyOr : goal.returns-in-PolicyOr
 unfolding policy_or
-returns-in-PolicyOr g c =
-    let joined = simp pieces at c.tell_structure-in-PolicyOr.ensures in
-    rw c.in-PolicyOr.is (simp pieces joined)
+returns-in-PolicyOr g c = rw c.in-PolicyOr.is (simp pieces (simp pieces at c.tell_structure-in-PolicyOr.ensures))
 
 pub returns-in-PcrRead : goal.returns-in-PcrRead
 unfolding pcr_read
-returns-in-PcrRead g c =
-    let joined = simp pieces at c.tell_structure-in-PcrRead.ensures in
-    rw c.in-PcrRead.is (simp pieces joined)
+returns-in-PcrRead g c = rw c.in-PcrRead.is (simp pieces (simp pieces at c.tell_structure-in-PcrRead.ensures))
 
 pub returns-in_ok-tell-in-PolicyPcr : goal.returns-in_ok-tell-in-PolicyPcr
 unfolding policy_pcr
 returns-in_ok-tell-in-PolicyPcr g c =
-    let written = simp (c.in_ok-tell-in-PolicyPcr.ensures) at c.tell_structure-in-PolicyPcr.ensures in
-    let joined = simp pieces at written in
-    rw c.in-PolicyPcr.is (simp pieces joined)
+    rw c.in-PolicyPcr.is (simp pieces (simp (c.in_ok-tell-in-PolicyPcr.ensures, pieces) at c.tell_structure-in-PolicyPcr.ensures))
 
 pub returns-in-PcrExtend : goal.returns-in-PcrExtend
 unfolding pcr_extend
-returns-in-PcrExtend g c =
-    let joined = simp pieces at c.tell_structure-in-PcrExtend.ensures in
-    rw c.in-PcrExtend.is (simp pieces joined)
+returns-in-PcrExtend g c = rw c.in-PcrExtend.is (simp pieces (simp pieces at c.tell_structure-in-PcrExtend.ensures))
 
 pub returns-in-PcrEvent : goal.returns-in-PcrEvent
 unfolding pcr_event

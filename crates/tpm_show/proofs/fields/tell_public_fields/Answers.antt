@@ -4,7 +4,4 @@ use Rattle.tpm_show.proofs.fields.tell_public_fields.Goals as goal
 
 pub returns : goal.returns
 unfolding nv_read_public_reply
-returns g c =
-    let written = simp (c.in_ok-tell_structure.ensures) at c.tell.ensures in
-    let joined = simp pieces at written in
-    simp pieces joined
+returns g c = simp pieces (simp (c.in_ok-tell_structure.ensures, pieces) at c.tell.ensures)

@@ -7,9 +7,7 @@ use Rattle.tpm_show.proofs.fields.tell_reply_fields.Goals as goal
 
 pub returns-in-PcrEvent : goal.returns-in-PcrEvent
 unfolding pcr_event_reply
-returns-in-PcrEvent g c =
-    let joined = simp pieces at c.tell_structure.ensures in
-    rw c.in-PcrEvent.is (simp pieces joined)
+returns-in-PcrEvent g c = rw c.in-PcrEvent.is (simp pieces (simp pieces at c.tell_structure.ensures))
 
 pub returns-in-PolicyGetDigest : goal.returns-in-PolicyGetDigest
 unfolding policy_get_digest_reply

@@ -5,10 +5,5 @@ use Rattle.tpm_show.proofs.fields.tell_start_fields.Goals as goal
 pub returns : goal.returns
 unfolding start_auth_session
 returns g c =
-    let written = simp (
-      c.in_ok-tell_structure.ensures,
-      c.in_ok-tell-3.ensures,
-      c.in_ok-tell-2.ensures,
-      c.in_ok-tell.ensures,
-    ) at c.tell-4.ensures in
-    let joined = simp pieces at written in simp pieces joined
+    simp pieces (simp (c.in_ok-tell_structure.ensures, c.in_ok-tell-3.ensures, c.in_ok-tell-2.ensures, c.in_ok-tell.ensures, pieces)
+    at c.tell-4.ensures)

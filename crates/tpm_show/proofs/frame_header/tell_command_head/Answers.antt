@@ -5,6 +5,10 @@ use Rattle.tpm_show.proofs.frame_header.tell_command_head.Goals as goal
 pub returns : goal.returns
 unfolding command_head
 returns g c =
-    let written = simp (c.in_ok-tell_size_and_tag.ensures, c.in_ok-tell_command.ensures, c.in_ok-tell.ensures, c.to_be_bytes.ensures) at c.tell_all.ensures in
-    let joined = simp pieces at written in
-    simp pieces joined
+    simp pieces (simp (
+      c.in_ok-tell_size_and_tag.ensures,
+      c.in_ok-tell_command.ensures,
+      c.in_ok-tell.ensures,
+      c.to_be_bytes.ensures,
+      pieces,
+    ) at c.tell_all.ensures)

@@ -5,12 +5,11 @@ use Rattle.tpm_show.proofs.frame_header.tell_reply_head.Goals as goal
 pub returns : goal.returns
 unfolding reply_head
 returns g c =
-    let written = simp (
+    simp pieces (simp (
       c.in_ok-tell_code_name.ensures,
       c.in_ok-tell-2.ensures,
       c.in_ok-tell_size_and_tag.ensures,
       c.in_ok-tell_answered.ensures,
       c.in_ok-tell.ensures,
-    ) at c.tell-3.ensures in
-    let joined = simp pieces at written in
-    simp pieces joined
+      pieces,
+    ) at c.tell-3.ensures)

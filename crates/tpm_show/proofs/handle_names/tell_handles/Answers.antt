@@ -5,6 +5,4 @@ use Rattle.tpm_show.proofs.handle_names.tell_handles.Goals as goal
 pub returns : goal.returns
 unfolding handles_told
 returns g c =
-    let written = simp (c.in_ok-tell_names.ensures, c.in_ok-tell_all.ensures, c.in_ok-tell_each.ensures, c.in_ok-tell.ensures) at c.tell-2.ensures in
-    let joined = simp pieces at written in
-    simp pieces joined
+    simp pieces (simp (c.in_ok-tell_names.ensures, c.in_ok-tell_all.ensures, c.in_ok-tell_each.ensures, c.in_ok-tell.ensures, pieces) at c.tell-2.ensures)

@@ -2,7 +2,7 @@ use Rattle.std.proofs.Common.{◌≡◌, ◌+◌, ◌==◌, List, [], length, �
 use Rattle.std.specs.Io.KnownBytes.{Appends, Consumes}
 use Rattle.tpm_pcap.specs.Entries.{Entry}
 use Rattle.tpm_show.specs.inner.PacketsTold.{TellsSoFar}
-use Rattle.tpm_show.proofs.packets.print_packets.Given as goal
+use Rattle.tpm_show.proofs.packets.print_traffic.Given as goal
 
 -- The bytes so far were taken, and what came of them was told.
 abbrev pub invariant-loop-entries : goal.invariant-loop-entries
@@ -11,7 +11,7 @@ invariant-loop-entries g l = record {
   told : List Entry;
   read : Consumes (g.R.Source.coming l.fn.input) (g.R.Source.coming l.input) bytes;
   count : length bytes + l.left ≡ l.most;
-  tells : TellsSoFar (record { first = l.fn.file; bytes = bytes; last = l.file; told = told }) l.initial.capture l.capture
+  tells : TellsSoFar (record { first = l.fn.file; bytes = bytes; last = l.file; told = told }) l.fn.capture l.capture
       (Appends (g.W.Write.contents l.fn.out) (g.W.Write.contents l.out));
   silent : l.silent ≡ (length told == 0);
   none : l.entries.items ≡ [];

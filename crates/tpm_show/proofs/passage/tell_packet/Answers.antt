@@ -4,7 +4,4 @@ use Rattle.tpm_show.proofs.passage.tell_packet.Goals as goal
 
 pub returns : goal.returns
 unfolding packet_told
-returns g c =
-    let written = simp (c.in_ok-tell_time.ensures, c.in_ok-tell_all.ensures) at c.tell_all-2.ensures in
-    let joined = simp pieces at written in
-    simp pieces joined
+returns g c = simp pieces (simp (c.in_ok-tell_time.ensures, c.in_ok-tell_all.ensures, pieces) at c.tell_all-2.ensures)

@@ -5,13 +5,12 @@ use Rattle.tpm_show.proofs.refused.tell_refusal.Goals as goal
 pub returns : goal.returns
 unfolding refusal_told
 returns g c =
-    let written = simp (
+    simp pieces (simp (
       c.in_ok-tell_code_in_line.ensures,
       c.in_ok-tell.ensures,
       c.in_ok-tell_code_name.ensures,
       c.in_ok-tell_all.ensures,
       c.verdict.ensures,
       c.verdict_name.ensures,
-    ) at c.tell-2.ensures in
-    let joined = simp pieces at written in
-    simp pieces joined
+      pieces,
+    ) at c.tell-2.ensures)

@@ -4,7 +4,4 @@ use Rattle.tpm_show.proofs.told.tell_code_alone.Goals as goal
 
 pub returns : goal.returns
 unfolding code_alone_told
-returns g c =
-    let written = simp (c.in_ok-tell_code_in_line.ensures, c.in_ok-tell_all.ensures) at c.tell.ensures in
-    let joined = simp pieces at written in
-    simp pieces joined
+returns g c = simp pieces (simp (c.in_ok-tell_code_in_line.ensures, c.in_ok-tell_all.ensures, pieces) at c.tell.ensures)

@@ -3,11 +3,10 @@ use Rattle.tpm_show.proofs.field.Field.tell_structure.Goals as goal
 
 pub returns : goal.returns
 returns g c =
-    let written = simp (
+    simp pieces (simp (
       c.in_ok-tell_parts.ensures,
       c.in_ok-begin_structure.ensures,
       c.as_slice.ensures.value,
       c.spelled.ensures,
-    ) at c.end_structure.ensures in
-    let joined = simp pieces at written in
-    simp pieces joined
+      pieces,
+    ) at c.end_structure.ensures)

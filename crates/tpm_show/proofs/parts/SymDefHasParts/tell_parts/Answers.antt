@@ -5,13 +5,9 @@ use Rattle.tpm_show.proofs.parts.SymDefHasParts.tell_parts.Goals as goal
 pub returns-in_ok-tell-in-Aes : goal.returns-in_ok-tell-in-Aes
 unfolding sym_def algorithm mode
 returns-in_ok-tell-in-Aes g c =
-    let written = simp (c.in_ok-tell-in-Aes.ensures, c.in_ok-tell_algorithm-in-Aes.ensures) at c.tell-in-Aes.ensures in
-    let joined = simp pieces at written in
-    rw c.in-Aes.is (simp pieces joined)
+    rw c.in-Aes.is (simp pieces (simp (c.in_ok-tell-in-Aes.ensures, c.in_ok-tell_algorithm-in-Aes.ensures, pieces) at c.tell-in-Aes.ensures))
 
 pub returns-in_ok-tell_algorithm-in-Xor : goal.returns-in_ok-tell_algorithm-in-Xor
 unfolding sym_def algorithm
 returns-in_ok-tell_algorithm-in-Xor g c =
-    let written = simp c.in_ok-tell_algorithm-in-Xor.ensures at c.tell-in-Xor.ensures in
-    let joined = simp pieces at written in
-    rw c.in-Xor.is (simp pieces joined)
+    rw c.in-Xor.is (simp pieces (simp (c.in_ok-tell_algorithm-in-Xor.ensures, pieces) at c.tell-in-Xor.ensures))
