@@ -213,7 +213,6 @@ fn tell_rest<T: Teller>(
 }
 
 /// Tells a frame.
-#[tactic(auto, using(crate::proofs::Pieces::pieces))]
 pub(crate) fn tell_frame<T: Teller>(
     teller: &mut T,
     direction: Direction,

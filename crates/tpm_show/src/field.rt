@@ -55,7 +55,6 @@ impl Field {
     }
 
     /// Tells it of this value, with its parts.
-    #[tactic(auto, using(crate::proofs::Pieces::pieces))]
     pub(crate) fn tell_structure<T: Teller, V: HasParts>(&self, teller: &mut T, value: &V) -> Pushed
         requires { V.most ≤ 512 }
         ensures { OnOk result (T.told teller.new ≡ T.told teller.old

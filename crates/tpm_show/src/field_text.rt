@@ -24,7 +24,6 @@ fn tell_value_name<T: Teller>(teller: &mut T, kind: &str, bytes: &[u8]) -> Pushe
     teller.tell(&says!(Behind "value_name" Word name.as_str()))
 }
 
-#[tactic(auto, using(crate::proofs::Pieces::pieces), unfolding(crate::specs::FieldText::field_begins))]
 fn begin_field<T: Teller>(teller: &mut T, field: &Field, bytes: &[u8]) -> Pushed
     ensures { OnOk result (T.told teller.new ≡ T.told teller.old
         ++ flat_map T.marks (field_begins field.now.0.now (field_as field.now) bytes.now)) }

@@ -103,7 +103,6 @@ fn tell_event<T: Teller>(teller: &mut T, event: &Event<'_>) -> Pushed
     tell_value(teller, &EVENT_DATA, spelled_event(event).as_slice())
 }
 
-#[tactic(auto, unfolding(tpm_types::specs::Constants::session_type, tpm_types::specs::Tpm2b::encrypted_salt, tpm_commands::specs::Commands::Session::start_auth_session))]
 fn tell_start_fields<T: Teller>(teller: &mut T, start: &StartAuth) -> Pushed
     ensures { OnOk result (T.told teller.new
         ≡ T.told teller.old ++ flat_map T.marks (command_fields (StartAuthSession start.now))) }
@@ -123,7 +122,7 @@ fn tell_start_fields<T: Teller>(teller: &mut T, start: &StartAuth) -> Pushed
 
 /// Tells each parameter of a command: its name, its type and its bytes (Part 3, the table of the command), and what
 /// stands in it.
-#[tactic(auto, unfolding(tpm_types::specs::Constants::startup_type, tpm_commands::specs::Commands::Startup::startup, tpm_commands::specs::Commands::Nv::nv_define_space, tpm_commands::specs::Commands::Pcr::pcr_event, tpm_commands::specs::Commands::Nv::nv_read, tpm_commands::specs::Commands::Context::flush_context, tpm_commands::specs::Commands::Policy::policy_command_code, tpm_commands::specs::Commands::Policy::policy_or, tpm_commands::specs::Commands::Pcr::pcr_read, tpm_commands::specs::Commands::Policy::policy_pcr, tpm_commands::specs::Commands::Pcr::pcr_extend))]
+#[tactic(auto, unfolding(tpm_commands::specs::Commands::Policy::policy_command_code))]
 pub(crate) fn tell_command_fields<T: Teller>(teller: &mut T, body: &CommandBody<'_>) -> Pushed
     ensures { OnOk result
         (T.told teller.new ≡ T.told teller.old ++ flat_map T.marks (command_fields body.now)) }
@@ -167,7 +166,6 @@ pub(crate) fn tell_command_fields<T: Teller>(teller: &mut T, body: &CommandBody<
 
 // ---- replies
 
-#[tactic(auto, unfolding(tpm_commands::specs::Commands::Nv::nv_read_public_reply))]
 fn tell_public_fields<T: Teller>(teller: &mut T, public: &NvPublic, name: &Name) -> Pushed
     ensures { OnOk result (T.told teller.new ≡ T.told teller.old
         ++ flat_map T.marks (reply_fields (NvReadPublic public.now name.now))) }
@@ -176,7 +174,6 @@ fn tell_public_fields<T: Teller>(teller: &mut T, public: &NvPublic, name: &Name)
     NV_NAME.tell(teller, name)
 }
 
-#[tactic(auto, unfolding(tpm_commands::specs::Commands::Pcr::pcr_read_reply))]
 fn tell_register_fields<T: Teller>(
     teller: &mut T,
     update_counter: u32,
@@ -193,7 +190,6 @@ fn tell_register_fields<T: Teller>(
 
 /// Tells each parameter of a reply: its name, its type and its bytes (Part 3, the response table of the command), and
 /// what stands in it.
-#[tactic(auto, unfolding(tpm_commands::specs::Commands::Pcr::pcr_event_reply, tpm_commands::specs::Commands::Nv::nv_read_reply, tpm_commands::specs::Commands::Session::start_auth_session_reply, tpm_commands::specs::Commands::Policy::policy_get_digest_reply))]
 pub(crate) fn tell_reply_fields<T: Teller>(teller: &mut T, body: &ReplyBody) -> Pushed
     ensures { OnOk result
         (T.told teller.new ≡ T.told teller.old ++ flat_map T.marks (reply_fields body.now)) }

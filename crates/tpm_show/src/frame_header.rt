@@ -153,7 +153,6 @@ fn tell_command<T: Teller>(teller: &mut T, code: u32) -> Pushed
 static COMMAND: Piece<'static> = in_line!(Alone Word "command");
 
 /// Tells the header of a command.
-#[tactic(auto, using(crate::proofs::Pieces::pieces), unfolding(crate::specs::Headers::command_head))]
 pub(crate) fn tell_command_head<T: Teller>(teller: &mut T, header: &FrameHeader) -> Pushed
     ensures { OnOk result (T.told teller.new
         ≡ T.told teller.old ++ flat_map T.marks (command_head header.now)) }
@@ -178,7 +177,6 @@ fn tell_answered<T: Teller>(teller: &mut T, command: Option<u32>) -> Pushed
 static REPLY: Piece<'static> = in_line!(Alone Word "reply");
 
 /// Tells the header of a reply to the command of this code.
-#[tactic(auto, using(crate::proofs::Pieces::pieces), unfolding(crate::specs::Headers::reply_head))]
 pub(crate) fn tell_reply_head<T: Teller>(
     teller: &mut T,
     command: Option<u32>,

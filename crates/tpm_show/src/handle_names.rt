@@ -58,7 +58,6 @@ const KINDS: [Row; 8] = names![
 ];
 
 /// The name of a permanent handle, or that of a handle's kind, where Part 2 has one.
-#[tactic(auto, unfolding(crate::specs::HandleNames::handle_named))]
 pub(crate) fn handle_name(handle: u32) -> Option<&'static str>
     ensures { option_map (λ name. name.now) result ≡ handle_named handle }
 {
@@ -123,7 +122,6 @@ static NAMES_BEHIND_HANDLES: [Piece<'static>; 2] = [
 ];
 
 /// Tells handles, and their names in a list of their own.
-#[tactic(auto, using(crate::proofs::Pieces::pieces), unfolding(crate::specs::HandleNames::handles_told))]
 pub(crate) fn tell_handles<T: Teller>(teller: &mut T, handles: &[u32]) -> Pushed
     ensures { OnOk result
         (T.told teller.new ≡ T.told teller.old ++ flat_map T.marks (handles_told handles.now)) }

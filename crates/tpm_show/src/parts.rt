@@ -67,7 +67,6 @@ fn tell_bits<T: Teller>(teller: &mut T, table: &'static [Row], attrs: u32) -> Pu
     Ok(())
 }
 
-#[tactic(auto, unfolding(crate::specs::Parts::attributes_set))]
 fn tell_attributes<T: Teller>(teller: &mut T, attrs: u32) -> Pushed
     ensures { OnOk result (T.told teller.new
         ≡ T.told teller.old ++ flat_map T.marks (flat_map set_attribute (attributes_set attrs))) }
@@ -110,7 +109,6 @@ static DATA_SIZE: Field = Field("    ", "dataSize", "UINT16");
 impl HasParts for NvPublic {
     ghost told_parts = { public_parts };
 
-    #[tactic(auto, using(crate::proofs::Pieces::pieces), unfolding(tpm_types::specs::Tpms::nv_public_area))]
     fn tell_parts<T: Teller>(&self, teller: &mut T) -> Pushed {
         NV_INDEX.tell(teller, &self.index)?;
         NAME_ALG.tell(teller, &self.alg)?;
@@ -171,7 +169,6 @@ fn tell_registers<T: Teller>(teller: &mut T, selection: &Selection) -> Pushed
     Ok(())
 }
 
-#[tactic(auto, using(crate::proofs::Pieces::pieces))]
 fn tell_select<T: Teller>(teller: &mut T, selection: &Selection) -> Pushed
     ensures { OnOk result (T.told teller.new ≡ T.told teller.old
         ++ flat_map T.marks (structure_told (codes "      ")
@@ -187,7 +184,6 @@ fn tell_select<T: Teller>(teller: &mut T, selection: &Selection) -> Pushed
 impl HasParts for Selection {
     ghost told_parts = { selection_members };
 
-    #[tactic(auto, unfolding(tpm_types::specs::Tpms::selection))]
     fn tell_parts<T: Teller>(&self, teller: &mut T) -> Pushed {
         HASH.tell(teller, &self.hash)?;
         SIZE_OF_SELECT.tell(teller, &(SELECT_BYTES as u8))?;
@@ -227,7 +223,6 @@ static HASH_DIGEST: Field = Field("      ", "digest", "TPMU_HA");
 impl HasParts for HashedDigest {
     ghost told_parts = { digest_value_members };
 
-    #[tactic(auto, using(crate::proofs::Pieces::pieces), unfolding(tpm_types::specs::Tpmt::digest_value))]
     fn tell_parts<T: Teller>(&self, teller: &mut T) -> Pushed {
         let hash = self.hash();
         HASH_ALG.tell(teller, &hash)?;

@@ -53,7 +53,6 @@ fn tell_time<T: Teller>(teller: &mut T, time: Option<u128>) -> Pushed
     teller.tell(&says!(Under "time" Word text.as_str()))
 }
 
-#[tactic(auto, using(crate::proofs::Pieces::pieces), unfolding(crate::specs::Passages::packet_told))]
 fn tell_packet<T: Teller>(teller: &mut T, stamp: Stamp, connection: u64) -> Pushed
     ensures { OnOk result (T.told teller.new
         ≡ T.told teller.old ++ flat_map T.marks (packet_told stamp connection)) }

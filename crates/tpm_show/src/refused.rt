@@ -72,7 +72,6 @@ fn verdict_name(beyond: bool) -> &'static str
 }
 
 /// Tells a fault, which is beyond this profile, or refused.
-#[tactic(auto, using(crate::proofs::Pieces::pieces), unfolding(crate::specs::Refusals::refusal_told))]
 pub(crate) fn tell_refusal<T: Teller>(teller: &mut T, beyond: bool, refusal: &Refusal) -> Pushed
     ensures { OnOk result (T.told teller.new
         ≡ T.told teller.old ++ flat_map T.marks (refusal_told beyond refusal.now)) }

@@ -181,7 +181,6 @@ fn tell_attribute_names<T: Teller>(teller: &mut T, attributes: u8) -> Pushed
 static ATTRIBUTE_NAMES: Piece<'static> = Piece::Opens(Some("attribute_names"), Shape::List);
 
 // Tells attributes, and the names of those that are set.
-#[tactic(auto, using(crate::proofs::Pieces::pieces), unfolding(crate::specs::Sessions::attributes_told))]
 fn tell_attributes<T: Teller>(teller: &mut T, attributes: u8) -> Pushed
     ensures { OnOk result
         (T.told teller.new ≡ T.told teller.old ++ flat_map T.marks (attributes_told attributes)) }

@@ -215,7 +215,6 @@ pub(crate) fn tell_response_rest<T: Teller>(
 }
 
 // Tells a code that has nothing behind it.
-#[tactic(auto, using(crate::proofs::Pieces::pieces), unfolding(crate::specs::Show::code_alone_told))]
 fn tell_code_alone<T: Teller>(teller: &mut T, code: u32) -> Pushed
     ensures { OnOk result
         (T.told teller.new ≡ T.told teller.old ++ flat_map T.marks (code_alone_told code)) }
