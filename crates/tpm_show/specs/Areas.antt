@@ -19,16 +19,16 @@ unfoldable pub parameters_told : (bytes : List ℕ) → List Piece
 parameters_told bytes = words (codes "parameters") ∷ says how.Behind (codes "parameters") (Bytes bytes) ∷ line_end ∷ []
 
 -- what stands behind a command's header: its handles, its sessions, and its parameters as they came
-abbrev pub areas_told : (handles : List ℕ) → List ShownSession → (params : List ℕ) → List Piece
+unfoldable pub areas_told : (handles : List ℕ) → List ShownSession → (params : List ℕ) → List Piece
 areas_told handles sessions params = handles_told handles ++ (sessions_told sessions ++ parameters_told params)
 
 -- a command, and where this is asked for its parameters by their names and their types
-abbrev pub command_rest : (fields : Bool) → Cut → CommandBody → List Piece
+unfoldable pub command_rest : (fields : Bool) → Cut → CommandBody → List Piece
 command_rest fields areas body =
     areas_told areas.handles (map of_command areas.auths) areas.params ++ fields_told fields (command_fields body)
 
 -- a reply: its handle, its parameters likewise, and its sessions
-abbrev pub reply_rest : (fields : Bool) → ReplyCut → ReplyBody → List Piece
+unfoldable pub reply_rest : (fields : Bool) → ReplyCut → ReplyBody → List Piece
 reply_rest fields r body =
     handles_told (option_to_list (handle_of r))
     ++ (parameters_told r.params

@@ -94,7 +94,7 @@ fn tell_named_parameters<T: Teller>(teller: &mut T, fields: bool, body: &Command
 }
 
 /// Tells what stands behind the header of a command.
-#[tactic(auto, using(crate::proofs::Pieces::pieces))]
+#[tactic(auto, using(crate::proofs::Pieces::pieces), unfolding(crate::specs::Areas::command_rest))]
 pub(crate) fn tell_command_rest<T: Teller>(
     teller: &mut T,
     fields: bool,
@@ -182,7 +182,7 @@ fn tell_first_handle<T: Teller>(teller: &mut T, handle: Option<u32>) -> Pushed
     }
 }
 
-#[tactic(auto, using(crate::proofs::Pieces::pieces))]
+#[tactic(auto, using(crate::proofs::Pieces::pieces), unfolding(crate::specs::Areas::reply_rest))]
 fn tell_reply_rest<T: Teller>(
     teller: &mut T,
     fields: bool,
