@@ -15,6 +15,6 @@ returns-in_ok-answer_to_found-in-Digests-clause-ok g c =
       looked.0,
       looked.1,
       subst (λ (allow : AllowFile).
-      ChecksBeside quote.options.now (record { attest = quote.attest.now; allow = Some allow }) looked.0 a.status (string_bytes a.text)) listed
+          ChecksBeside quote.options.now (record { attest = quote.attest.now; allow = Some allow }) looked.0 a.status (string_bytes a.text)) listed
           (c.in_ok-answer_to_found-in-Digests.ensures looked.0 (rw same looked.2)),
     )
