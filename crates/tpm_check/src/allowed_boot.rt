@@ -52,8 +52,8 @@ impl<'a, 'b, 'c> VouchedLog<'a, 'b, 'c> {
         ensures { IfOk result (λ status. Adds (on_digests (vouched_log self.now) digests.now)
             status (string_bytes text.old) (string_bytes text.new)) }
     {
-        let mut list = AllowIndex::new(alloc, digests)?;
-        let found = unknown_in(alloc, &mut list, self.log)?;
+        let list = AllowIndex::new(alloc, digests)?;
+        let found = unknown_in(alloc, &list, self.log)?;
         let told = AllowTold {
             list: &list,
             found: found.as_slice(),
@@ -212,8 +212,8 @@ pub(crate) fn answer_to_source<L: Source>(
 {
     match allow {
         AllowFile::Digests(digests) => {
-            let mut list = AllowIndex::new(alloc, digests)?;
-            let found = look_up(alloc, log, MOST_READ, &mut list)?;
+            let list = AllowIndex::new(alloc, digests)?;
+            let found = look_up(alloc, log, MOST_READ, &list)?;
             Ok(answer_to_found(alloc, quote, &list, &found)?)
         }
         AllowFile::Wrong(_) | AllowFile::TooLong => {

@@ -9,12 +9,11 @@ returns-in_ok-answer_to_found-in-Digests-clause-ok g c =
     let quote = c.args.quote in
     let a = c.in_ok-answer_to_found-in-Digests.field-0 in
     let looked = c.in_ok-found-in-Digests.ensures.ok in
-    let same = c.look_up.ensures.same in
-    let listed : Digests c.look_up.new.list ≡ c.args.allow.now =
-    ap Digests (same ∙ c.in_ok-list-in-Digests.ensures) ∙ sym c.in-Digests.is in (
+    let listed : Digests c.in_ok-list-in-Digests.list ≡ c.args.allow.now =
+    ap Digests c.in_ok-list-in-Digests.ensures ∙ sym c.in-Digests.is in (
       looked.0,
       looked.1,
       subst (λ (allow : AllowFile).
           ChecksBeside quote.options.now (record { attest = quote.attest.now; allow = Some allow }) looked.0 a.status (string_bytes a.text)) listed
-          (c.in_ok-answer_to_found-in-Digests.ensures looked.0 (rw same looked.2)),
+          (c.in_ok-answer_to_found-in-Digests.ensures looked.0 looked.2),
     )

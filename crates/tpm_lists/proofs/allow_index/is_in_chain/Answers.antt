@@ -1,6 +1,6 @@
 use Rattle.std.proofs.Common.{◌≡◌, ◌+◌, ◌-◌, sym, ◌∙◌, arith}
 use Rattle.tpm_lists.proofs.AllowFinding.{chain_on, last_found, leads_on, none_found}
-use Rattle.tpm_lists.proofs.allow_index.find_in_chain.Goals as goal
+use Rattle.tpm_lists.proofs.allow_index.is_in_chain.Goals as goal
 
 pub loop-end-init : goal.loop-end-init
 loop-end-init c = leads_on c.args.digests.now c.args.sought.now.bank c.args.sought.now.register c.args.sought.now.digest.now c.args.end c.requires.ends

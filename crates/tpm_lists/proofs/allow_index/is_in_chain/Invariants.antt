@@ -1,5 +1,5 @@
 use Rattle.tpm_lists.proofs.AllowFinding.{LeadsOn}
-use Rattle.tpm_lists.proofs.allow_index.find_in_chain.Given as goal
+use Rattle.tpm_lists.proofs.allow_index.is_in_chain.Given as goal
 
 -- the chain up to there
 abbrev pub invariant-loop-end : goal.invariant-loop-end
