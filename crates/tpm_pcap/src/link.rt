@@ -3,6 +3,8 @@
 ghost use Rattle.std.specs.Prelude.{◌≡◌, length};
 ghost use Rattle.tpm_pcap.specs.Links.{link_of, head_size, is_internet, carries_internet};
 
+use crate::numbers::number2;
+
 /// A kind of link, by what stands before each packet of it (libpcap, "Link-layer header types").
 #[derive(Clone, Copy)]
 pub(crate) enum Link {
@@ -56,10 +58,10 @@ pub(crate) fn carries_internet(link: Link, head: &[u8]) -> bool
     requires { length head.now ≡ head_size link }
     ensures { result ≡ carries_internet link head.now }
 {
-    match (link, head) {
-        (Link::Ethernet | Link::Cooked, [.., high, low]) | (Link::Cooked2, [high, low, ..]) => {
-            is_internet(u16::from_be_bytes([*high, *low]))
-        }
-        _ => true,
+    match link {
+        Link::Ethernet => is_internet(number2(head, 12)),
+        Link::Cooked => is_internet(number2(head, 14)),
+        Link::Cooked2 => is_internet(number2(head, 0)),
+        Link::Raw | Link::Loopback => true,
     }
 }

@@ -3,6 +3,8 @@
 ghost use Rattle.std.specs.Prelude.{◌≡◌, ◌≤◌};
 ghost use Rattle.tpm_pcap.specs.Messages.{measured, of_size, bare, to_simulator, from_simulator};
 
+use crate::numbers::{number2, number4};
+
 /// The greatest size of a frame.
 const MOST: usize = 4096;
 
@@ -38,10 +40,10 @@ fn of_size(before: usize, size: usize, behind: usize, held: &[u8]) -> Measure
 fn bare(held: &[u8]) -> Measure
     ensures { result ≡ bare held.now }
 {
-    let [_, _, a, b, c, d, ..] = held else {
+    if held.len() < 6 {
         return Measure::More;
-    };
-    let size = u32::from_be_bytes([*a, *b, *c, *d]) as usize;
+    }
+    let size = number4(held, 2) as usize;
     if size < 10 {
         return Measure::Broken;
     }
@@ -51,15 +53,13 @@ fn bare(held: &[u8]) -> Measure
 fn to_simulator(held: &[u8]) -> Measure
     ensures { result ≡ to_simulator held.now }
 {
-    let [a, b, c, d, rest @ ..] = held else {
+    if held.len() < 4 {
         return Measure::More;
-    };
-    match (u32::from_be_bytes([*a, *b, *c, *d]), rest) {
-        (20, _) => Measure::Silent,
-        (8, [_, a, b, c, d, ..]) => {
-            of_size(9, u32::from_be_bytes([*a, *b, *c, *d]) as usize, 0, held)
-        }
-        (8, _) => Measure::More,
+    }
+    match number4(held, 0) {
+        20 => Measure::Silent,
+        8 if held.len() < 9 => Measure::More,
+        8 => of_size(9, number4(held, 5) as usize, 0, held),
         _ => Measure::Broken,
     }
 }
@@ -67,10 +67,10 @@ fn to_simulator(held: &[u8]) -> Measure
 fn from_simulator(held: &[u8]) -> Measure
     ensures { result ≡ from_simulator held.now }
 {
-    let [a, b, c, d, ..] = held else {
+    if held.len() < 4 {
         return Measure::More;
-    };
-    of_size(4, u32::from_be_bytes([*a, *b, *c, *d]) as usize, 4, held)
+    }
+    of_size(4, number4(held, 0) as usize, 4, held)
 }
 
 /// What bytes of a way are, from the beginning of a message.
@@ -78,10 +78,10 @@ fn from_simulator(held: &[u8]) -> Measure
 pub(crate) fn measured(to_tpm: bool, held: &[u8]) -> Measure
     ensures { result ≡ measured to_tpm held.now }
 {
-    let [high, low, ..] = held else {
+    if held.len() < 2 {
         return Measure::More;
-    };
-    match u16::from_be_bytes([*high, *low]) {
+    }
+    match number2(held, 0) {
         0x8001 | 0x8002 | 0x00c4 => bare(held),
         0 if to_tpm => to_simulator(held),
         0 => from_simulator(held),

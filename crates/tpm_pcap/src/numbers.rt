@@ -1,8 +1,8 @@
 //! The fields of a file or a packet, one behind the other.
 
-ghost use Rattle.std.specs.Prelude.{◌≡◌, ◌+◌, length, IfOk};
+ghost use Rattle.std.specs.Prelude.{◌≡◌, ◌+◌, ◌<◌, length, IfOk};
 ghost use Rattle.std.specs.Int.{w16, w32};
-ghost use Rattle.tpm_pcap.specs.Numbers.{cut, field};
+ghost use Rattle.tpm_pcap.specs.Numbers.{cut, field, number2, number4};
 ghost use Rattle.tpm_pcap.specs.inner.Numbers.{field_by};
 
 use crate::entry::Reason;
@@ -23,6 +23,22 @@ pub(crate) fn cut(bytes: &[u8], count: usize) -> Result<(&[u8], &[u8]), Reason>
     ensures size { IfOk result (λ x. (length x.0.now ≡ count) × (length x.1.now + count ≡ length bytes.now)) }
 {
     bytes.split_at_checked(count).ok_or(Reason::CutShort)
+}
+
+/// The number of the two bytes that stand there, the most significant first.
+pub(crate) fn number2(bytes: &[u8], at: usize) -> u16
+    requires { at + 1 < length bytes.now }
+    ensures { result ≡ number2 bytes.now at }
+{
+    u16::from_be_bytes([bytes[at], bytes[at + 1]])
+}
+
+/// That of four bytes likewise.
+pub(crate) fn number4(bytes: &[u8], at: usize) -> u32
+    requires { at + 3 < length bytes.now }
+    ensures { result ≡ number4 bytes.now at }
+{
+    u32::from_be_bytes([bytes[at], bytes[at + 1], bytes[at + 2], bytes[at + 3]])
 }
 
 impl Order {

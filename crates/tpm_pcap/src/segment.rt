@@ -7,7 +7,7 @@ ghost use Rattle.tpm_pcap.specs.inner.Numbers.{read_by};
 
 use crate::entry::Reason;
 use crate::link::{Link, carries_internet, head_size};
-use crate::numbers::cut;
+use crate::numbers::{cut, number2, number4};
 
 /// A segment on the port.
 #[derive(Drop, Clone, Copy)]
@@ -85,30 +85,10 @@ fn in_tcp<'a>(
     let (fields, _) = cut(tcp, 20)?;
     // Source Port, Destination Port, Sequence Number, Acknowledgment Number, Data Offset, the control bits, Window,
     // Checksum, and Urgent Pointer
-    let [
-        s0,
-        s1,
-        t0,
-        t1,
-        n0,
-        n1,
-        n2,
-        n3,
-        _,
-        _,
-        _,
-        _,
-        offset,
-        control,
-        ..
-    ] = fields
-    else {
-        return Err(Reason::CutShort);
-    };
-    let source_port = u16::from_be_bytes([*s0, *s1]);
-    let target_port = u16::from_be_bytes([*t0, *t1]);
+    let source_port = number2(fields, 0);
+    let target_port = number2(fields, 2);
     let to_tpm = target_port == port;
-    let head = *offset as usize / 16 * 4;
+    let head = fields[12] as usize / 16 * 4;
     if !to_tpm && source_port != port || head < 20 || size < head {
         return Ok(Carried::Other);
     }
@@ -123,8 +103,8 @@ fn in_tcp<'a>(
         client,
         simulator,
         port,
-        number: u32::from_be_bytes([*n0, *n1, *n2, *n3]),
-        opens: *control / 2 % 2 == 1,
+        number: number4(fields, 4),
+        opens: fields[13] / 2 % 2 == 1,
         size,
         payload: front(behind(tcp, head), size),
     }))
@@ -143,17 +123,14 @@ fn in_version4<'a>(port: u16, bytes: &'a [u8]) -> Result<Carried<'a>, Reason>
     let (target, _) = cut(rest, 4)?;
     // Version and Internet Header Length, Type of Service, Total Length, Identification, Flags and Fragment Offset,
     // Time to Live, Protocol, and Header Checksum
-    let [first, _, t0, t1, _, _, f0, f1, _, protocol, _, _] = fields else {
-        return Err(Reason::CutShort);
-    };
-    if *protocol != 6 {
+    if fields[9] != 6 {
         return Ok(Carried::Other);
     }
-    if u16::from_be_bytes([*f0, *f1]) % 16384 != 0 {
+    if number2(fields, 6) % 16384 != 0 {
         return Ok(Carried::Fragment);
     }
-    let head = *first as usize % 16 * 4;
-    let size = (u16::from_be_bytes([*t0, *t1]) as usize).saturating_sub(head);
+    let head = fields[0] as usize % 16 * 4;
+    let size = (number2(fields, 2) as usize).saturating_sub(head);
     in_tcp(port, source, target, size, behind(bytes, head))
 }
 
@@ -167,11 +144,8 @@ fn in_version6<'a>(port: u16, bytes: &'a [u8]) -> Result<Carried<'a>, Reason>
     let (source, rest) = cut(rest, 16)?;
     let (target, packet) = cut(rest, 16)?;
     // Version, Traffic Class and Flow Label, Payload Length, Next Header, and Hop Limit
-    let [_, _, _, _, l0, l1, next, _] = fields else {
-        return Err(Reason::CutShort);
-    };
-    let size = u16::from_be_bytes([*l0, *l1]) as usize;
-    match (*next, packet) {
+    let size = number2(fields, 4) as usize;
+    match (fields[6], packet) {
         (6, _) => in_tcp(port, source, target, size, packet),
         (44, [6, ..]) => Ok(Carried::Fragment),
         (44, []) => Err(Reason::CutShort),
