@@ -26,13 +26,10 @@ pub(crate) fn without_prefix(text: &[u8]) -> &[u8]
 fn without_blanks(alloc: Global, text: &[u8]) -> Result<Vec<u8>, AllocError>
     ensures { IfOk result (λ digits. digits.items ≡ without_blanks text.now) }
 {
-    let mut digits = Vec::new(alloc);
-    for &byte in text {
-        if !is_blank(byte) {
-            digits.push(byte)?;
-        }
-    }
-    Ok(digits)
+    text.iter()
+        .copied()
+        .filter(|byte| !is_blank(*byte))
+        .collect(alloc)
 }
 
 /// The bytes of a buffer by its text, or none for any other text.
