@@ -183,7 +183,6 @@ struct ToldJudged<'a, 'b> {
 impl<'a, 'b> Tell for ToldJudged<'a, 'b> {
     ghost marks = { λ t. marks_of_judged t.form t.attest.now t.judged };
 
-    #[tactic(auto, using(tpm_output::proofs::Telling::told_both))]
     fn tell<T: Teller>(&self, out: &mut T) -> Told {
         let judged = &self.judged;
         tell_attest(out, self.attest)?;
