@@ -1,7 +1,6 @@
 //! The program's lines.
 
 ghost use Rattle.std.specs.Prelude.{◌≡◌, ◌++◌, OnOk, string_bytes};
-ghost use Rattle.hex.specs.Hex.{encode_lower};
 ghost use Rattle.tpm_output.specs.Text.{bytes_line, bytes_text, refusal_line};
 
 use crate::puts::put_bytes;
@@ -35,15 +34,6 @@ pub fn push_bytes(text: &mut String, bytes: &[u8]) -> Pushed
     text.push_str("\n")
 }
 
-/// Adds bytes in lower-case hexadecimal digits, two to a byte.
-///
-/// Where a request for memory is refused what was added is left open.
-pub fn push_hex(text: &mut String, bytes: &[u8]) -> Pushed
-    ensures { OnOk result (string_bytes text.new ≡ string_bytes text.old ++ encode_lower bytes.now) }
-{
-    put_bytes(text, bytes).map_err(|_| AllocError)
-}
-
 /// Adds bytes in lower-case hexadecimal digits, two to a byte, and of no bytes `-`.
 ///
 /// Where a request for memory is refused what was added is left open.
@@ -53,5 +43,5 @@ pub fn push_shown(text: &mut String, bytes: &[u8]) -> Pushed
     if bytes.is_empty() {
         return text.push_str("-");
     }
-    push_hex(text, bytes)
+    put_bytes(text, bytes).map_err(|_| AllocError)
 }
