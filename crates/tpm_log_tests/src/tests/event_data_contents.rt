@@ -1,10 +1,8 @@
 //! What the data of events say. The bytes are those of Python's struct and uuid.
 
-use crate::tests::rows::{Asked, Is, code, event, made, prints, rows, tells};
-use std::process::Abort;
+use crate::tests::rows::{Asked, Row, event, rows};
 use std::test::*;
 use tpm_event_data::{Content, TypedValue, data_kind, packed_paths};
-use tpm_testing::word;
 
 // OPTION is "ubuntu" with the device paths PATHS, of which the first is \EFI\A.EFI and the second its end alone. DB
 // and MOKLIST are an entry of db and one of MokListRT, with a certificate of two bytes.
@@ -25,54 +23,59 @@ const BYTES: &str = "
 struct Data;
 
 impl Asked for Data {
-    fn ask<R: Abort>(rt: &R, mut given: &str, told: &mut &str) {
-        let kind = code(rt, word(&mut given));
-        let bytes = made(rt, BYTES, given);
-        let event = event(rt, (7, kind), &[], bytes.as_slice());
-        says(rt, told, event.content());
+    fn ask(row: &mut Row<'_>) {
+        let kind = row.code();
+        let bytes = row.rest();
+        says(row, event(7, kind, &[], bytes.as_slice()).content());
     }
 }
 
-fn says(rt: &impl Abort, told: &mut &str, content: Content<'_>) {
-    let (name, value) = said(content);
-    tells(rt, BYTES, told, &[Is::Name(name), value]);
-    if let Content::Image(image) = content {
-        tells(rt, BYTES, told, &[Is::Bytes(image.rest)]);
-    }
-}
-
-fn said(content: Content<'_>) -> (&'static str, Is<'_>) {
+fn says(row: &mut Row<'_>, content: Content<'_>) {
     match content {
-        Content::Text(text) => ("text", Is::Bytes(text.as_bytes())),
-        Content::Units(units) => ("units", Is::Bytes(units)),
-        Content::Version(units) => ("version", Is::Bytes(units)),
-        Content::VersionGuid(guid) => ("guid", Is::Bytes(guid)),
-        Content::Separator(number) => ("separator", Is::Code(number as u64)),
-        Content::Locality(number) => ("locality", Is::Code(number as u64)),
-        Content::Variable(_, typed) => said_of_variable(typed),
-        Content::Image(image) => ("image", Is::Bytes(image.path)),
-        Content::Other => ("other", Is::Name("")),
-        _ => ("more", Is::Name("")),
+        Content::Text(text) => has(row, "text", text.as_bytes()),
+        Content::Units(units) => has(row, "units", units),
+        Content::Version(units) => has(row, "version", units),
+        Content::VersionGuid(guid) => has(row, "guid", guid),
+        Content::Separator(number) => is_number(row, "separator", number as u64),
+        Content::Locality(number) => is_number(row, "locality", number as u64),
+        Content::Variable(_, typed) => says_variable(row, typed),
+        Content::Image(image) => {
+            has(row, "image", image.path);
+            row.has(image.rest);
+        }
+        Content::Other => row.is("other"),
+        _ => row.is("more"),
     }
 }
 
-fn said_of_variable(typed: TypedValue<'_>) -> (&'static str, Is<'_>) {
+fn says_variable(row: &mut Row<'_>, typed: TypedValue<'_>) {
     match typed {
-        TypedValue::Byte(byte) => ("byte", Is::Code(byte as u64)),
-        TypedValue::Empty => ("empty", Is::Name("")),
-        TypedValue::Bytes => ("bytes", Is::Name("")),
-        TypedValue::BootOrder(numbers) => ("order", Is::Bytes(numbers)),
-        TypedValue::LoadOption(option) => ("option", Is::Bytes(option.path)),
-        TypedValue::Signatures(lists) => ("signatures", Is::Bytes(lists)),
-        TypedValue::Signature(one) => ("signature", Is::Bytes(one.value)),
+        TypedValue::Byte(byte) => is_number(row, "byte", byte as u64),
+        TypedValue::Empty => row.is("empty"),
+        TypedValue::Bytes => row.is("bytes"),
+        TypedValue::BootOrder(numbers) => has(row, "order", numbers),
+        TypedValue::LoadOption(option) => has(row, "option", option.path),
+        TypedValue::Signatures(lists) => has(row, "signatures", lists),
+        TypedValue::Signature(one) => has(row, "signature", one.value),
     }
+}
+
+fn has(row: &mut Row<'_>, name: &str, bytes: &[u8]) {
+    row.is(name);
+    row.has(bytes);
+}
+
+fn is_number(row: &mut Row<'_>, name: &str, number: u64) {
+    row.is(name);
+    row.is_code(number);
 }
 
 struct Kinds;
 
 impl Asked for Kinds {
-    fn ask<R: Abort>(rt: &R, given: &str, told: &mut &str) {
-        prints(rt, told, data_kind(code(rt, given)));
+    fn ask(row: &mut Row<'_>) {
+        let kind = data_kind(row.code());
+        row.prints(kind);
     }
 }
 
@@ -80,6 +83,7 @@ impl Asked for Kinds {
 fn a_type_has_a_kind(rt: HostRuntime) {
     rows::<Kinds>(
         &rt,
+        BYTES,
         "
         # EV_EFI_PLATFORM_FIRMWARE_BLOB, EV_EFI_HANDOFF_TABLES, and another
         80000008 is Blob
@@ -93,6 +97,7 @@ fn a_type_has_a_kind(rt: HostRuntime) {
 fn what_data_say_is_told(rt: HostRuntime) {
     rows::<Data>(
         &rt,
+        BYTES,
         "
         # Text of EV_ACTION and of EV_IPL, which may have line feeds, and UTF-8
         5 444d412050726f74656374696f6e2044697361626c6564 is text 444d412050726f74656374696f6e2044697361626c6564
@@ -137,9 +142,9 @@ fn what_data_say_is_told(rt: HostRuntime) {
 struct Paths;
 
 impl Asked for Paths {
-    fn ask<R: Abort>(rt: &R, given: &str, told: &mut &str) {
-        for path in packed_paths(made(rt, BYTES, given).as_slice()) {
-            tells(rt, BYTES, told, &[Is::Bytes(path)]);
+    fn ask(row: &mut Row<'_>) {
+        for path in packed_paths(row.rest().as_slice()) {
+            row.has(path);
         }
     }
 }
@@ -148,6 +153,7 @@ impl Asked for Paths {
 fn packed_paths_are_lent(rt: HostRuntime) {
     rows::<Paths>(
         &rt,
+        BYTES,
         "
         PATHS is FIRST_PATH 7fff0400
         PATHS <33 is FIRST_PATH 7fff04

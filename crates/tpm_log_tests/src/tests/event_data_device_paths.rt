@@ -1,10 +1,10 @@
 //! Images that were loaded, and device paths. The bytes are those of Python's struct.
 
-use crate::tests::rows::{Asked, Is, code, event, faults, holds, made, names, rows, tells};
-use std::process::Abort;
+use crate::tests::rows::{Asked, Row, event, rows};
 use std::test::*;
-use tpm_event_data::{DeviceNode, DevicePathFault, ImageLoad, device_path, image_load};
-use tpm_testing::word;
+use tpm_event_data::{
+    DeviceNode, DevicePathFault, ImageLoad, ImageLoadFault, device_path, image_load,
+};
 
 // PATH is PciRoot(0x0)/Pci(0x1D,0x0)/\EFI\A.EFI, and the end of the path. NUMBERS are the address 0x7E5D3000, the
 // length 0x123000, the link-time address 0x180000000, and how long a path is.
@@ -18,21 +18,21 @@ const BYTES: &str = "
 struct Paths;
 
 impl Asked for Paths {
-    fn ask<R: Abort>(rt: &R, given: &str, told: &mut &str) {
-        for node in device_path(made(rt, BYTES, given).as_slice()) {
-            is_node(rt, told, node);
+    fn ask(row: &mut Row<'_>) {
+        for node in device_path(row.rest().as_slice()) {
+            is_node(row, node);
         }
     }
 }
 
-fn is_node(rt: &impl Abort, told: &mut &str, node: Result<DeviceNode<'_>, DevicePathFault>) {
+fn is_node(row: &mut Row<'_>, node: Result<DeviceNode<'_>, DevicePathFault>) {
     match node {
         Ok(node) => {
-            let kind = Is::Code(node.kind as u64);
-            let subtype = Is::Code(node.subtype as u64);
-            tells(rt, BYTES, told, &[kind, subtype, Is::Bytes(node.value)]);
+            row.is_code(node.kind as u64);
+            row.is_code(node.subtype as u64);
+            row.has(node.value);
         }
-        Err(fault) => faults(rt, told, fault.kind, fault.at as u64),
+        Err(fault) => row.is_fault(fault.kind, fault.at),
     }
 }
 
@@ -40,6 +40,7 @@ fn is_node(rt: &impl Abort, told: &mut &str, node: Result<DeviceNode<'_>, Device
 fn each_node_is_lent_and_the_first_fault_told(rt: HostRuntime) {
     rows::<Paths>(
         &rt,
+        BYTES,
         "
         PATH is 2 1 ACPI 1 1 001d 4 4 FILE 7f ff -
         # Nothing is told behind a fault.
@@ -54,42 +55,41 @@ fn each_node_is_lent_and_the_first_fault_told(rt: HostRuntime) {
         PATH 00 is 2 1 ACPI 1 1 001d 4 4 FILE Behind 48
         ",
     );
-    holds(&rt, device_path(&[]).next().is_none(), "no byte");
+    assert!(rt; device_path(&[]).next().is_none());
 }
 
+// The type and the data.
 struct Images;
 
 impl Asked for Images {
-    fn ask<R: Abort>(rt: &R, mut given: &str, told: &mut &str) {
-        let kind = code(rt, word(&mut given));
-        let bytes = made(rt, BYTES, given);
-        match event(rt, (4, kind), &[], bytes.as_slice()).image_load() {
-            Some(Ok(image)) => is_image(rt, told, &image),
-            Some(Err(fault)) => faults(rt, told, fault.kind, fault.at as u64),
-            None => names(rt, told, "none"),
+    fn ask(row: &mut Row<'_>) {
+        let kind = row.code();
+        let bytes = row.rest();
+        match event(4, kind, &[], bytes.as_slice()).image_load() {
+            Some(read) => is_image(row, read),
+            None => row.is("none"),
         }
     }
 }
 
-fn is_image(rt: &impl Abort, told: &mut &str, image: &ImageLoad<'_>) {
-    tells(
-        rt,
-        BYTES,
-        told,
-        &[
-            Is::Code(image.address),
-            Is::Code(image.size),
-            Is::Code(image.link_address),
-            Is::Bytes(image.path),
-            Is::Bytes(image.rest),
-        ],
-    );
+fn is_image(row: &mut Row<'_>, read: Result<ImageLoad<'_>, ImageLoadFault>) {
+    match read {
+        Ok(image) => {
+            row.is_code(image.address);
+            row.is_code(image.size);
+            row.is_code(image.link_address);
+            row.has(image.path);
+            row.has(image.rest);
+        }
+        Err(fault) => row.is_fault(fault.kind, fault.at),
+    }
 }
 
 #[test]
 fn an_image_is_lent(rt: HostRuntime) {
     rows::<Images>(
         &rt,
+        BYTES,
         "
         80000003 NUMBERS PATH is 7e5d3000 123000 180000000 PATH -
         80000004 NUMBERS PATH is 7e5d3000 123000 180000000 PATH -
@@ -99,5 +99,5 @@ fn an_image_is_lent(rt: HostRuntime) {
         80000003 NUMBERS PATH <79 is PathLength 24
         ",
     );
-    holds(&rt, image_load(&[]).is_err(), "no byte");
+    assert!(rt; image_load(&[]).is_err());
 }

@@ -1,10 +1,8 @@
 //! What devices say of themselves by SPDM. The bytes are those of Python's struct.
 
-use crate::tests::rows::{Asked, Is, code, event, faults, made, names, rows, tells};
-use std::process::Abort;
+use crate::tests::rows::{Asked, Row, event, rows};
 use std::test::*;
 use tpm_event_data::{DeviceEvidence, DeviceMeasurement, DeviceSecurity};
-use tpm_testing::word;
 
 // FIRST is of version 1, of a device of PCI whose hash is 2: the block of the index 3, of DMTF, whose value of the
 // type 1 has 8 bytes. OTHER_BLOCK is of version 1, of no device: the block of the index 4, of another specification,
@@ -24,61 +22,42 @@ const BYTES: &str = "
 struct Devices;
 
 impl Asked for Devices {
-    fn ask<R: Abort>(rt: &R, mut given: &str, told: &mut &str) {
-        let kind = code(rt, word(&mut given));
-        let bytes = made(rt, BYTES, given);
-        match event(rt, (2, kind), &[], bytes.as_slice()).device_security() {
-            Some(Ok(device)) => is_device(rt, told, &device),
-            Some(Err(fault)) => faults(rt, told, fault.kind, fault.at as u64),
-            None => names(rt, told, "none"),
+    fn ask(row: &mut Row<'_>) {
+        let kind = row.code();
+        let bytes = row.rest();
+        match event(2, kind, &[], bytes.as_slice()).device_security() {
+            Some(Ok(DeviceSecurity::First(device))) => is_measured(row, &device),
+            Some(Ok(DeviceSecurity::Second(device))) => is_evident(row, &device),
+            Some(Err(fault)) => row.is_fault(fault.kind, fault.at),
+            None => row.is("none"),
         }
     }
 }
 
-fn is_device(rt: &impl Abort, told: &mut &str, device: &DeviceSecurity<'_>) {
-    match device {
-        DeviceSecurity::First(device) => is_measured(rt, told, device),
-        DeviceSecurity::Second(device) => is_evident(rt, told, device),
-    }
+fn is_measured(row: &mut Row<'_>, device: &DeviceMeasurement<'_>) {
+    row.is("first");
+    row.is_code(device.hash as u64);
+    row.is_code(device.device_type as u64);
+    row.has(device.block);
+    row.has(device.context);
 }
 
-fn is_measured(rt: &impl Abort, told: &mut &str, device: &DeviceMeasurement<'_>) {
-    tells(
-        rt,
-        BYTES,
-        told,
-        &[
-            Is::Name("first"),
-            Is::Code(device.hash as u64),
-            Is::Code(device.device_type as u64),
-            Is::Bytes(device.block),
-            Is::Bytes(device.context),
-        ],
-    );
-}
-
-fn is_evident(rt: &impl Abort, told: &mut &str, device: &DeviceEvidence<'_>) {
-    tells(
-        rt,
-        BYTES,
-        told,
-        &[
-            Is::Name("second"),
-            Is::Code(device.auth_state as u64),
-            Is::Code(device.device_type as u64),
-            Is::Code(device.sub_header_type as u64),
-            Is::Code(device.uid),
-            Is::Bytes(device.path),
-            Is::Bytes(device.sub_header),
-            Is::Bytes(device.context),
-        ],
-    );
+fn is_evident(row: &mut Row<'_>, device: &DeviceEvidence<'_>) {
+    row.is("second");
+    row.is_code(device.auth_state as u64);
+    row.is_code(device.device_type as u64);
+    row.is_code(device.sub_header_type as u64);
+    row.is_code(device.uid);
+    row.has(device.path);
+    row.has(device.sub_header);
+    row.has(device.context);
 }
 
 #[test]
 fn what_devices_say_and_their_first_fault_are_told(rt: HostRuntime) {
     rows::<Devices>(
         &rt,
+        BYTES,
         "
         800000e1 FIRST <17 is Truncated 0
         800000e1 FIRST <31 is Truncated 0

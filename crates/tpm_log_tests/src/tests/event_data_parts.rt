@@ -1,14 +1,12 @@
 //! What events tell of partitions, of the firmware, of its tables, of tags and of boot variables. The bytes are those
 //! of Python's struct and uuid.
 
-use crate::tests::rows::{Asked, Is, code, event, faults, made, names, or_none, rows, tells};
-use std::process::Abort;
+use crate::tests::rows::{Asked, Row, event, rows};
 use std::test::*;
 use tpm_event_data::{
     Event, EventDataFault, FirmwareBlob, HandoffTable, HandoffTables, LoadOption, Partition,
     PartitionTable, TaggedEvent, Variable, load_option,
 };
-use tpm_testing::word;
 
 // TABLE has an EFI system partition of the blocks 2048 to 1050623, and one of Linux whose name has 36 units;
 // WIDE_TABLE the first of them in an entry of 256 bytes. BLOB is the address 0xFFC00000 and the length 0x40000,
@@ -50,100 +48,88 @@ const BYTES: &str = "
 struct Events;
 
 impl Asked for Events {
-    fn ask<R: Abort>(rt: &R, mut given: &str, told: &mut &str) {
-        let kind = code(rt, word(&mut given));
-        let bytes = made(rt, BYTES, given);
-        if let Err(fault) = is_first(rt, told, &event(rt, (5, kind), &[], bytes.as_slice())) {
-            faults(rt, told, fault.kind, fault.at as u64);
+    fn ask(row: &mut Row<'_>) {
+        let kind = row.code();
+        let bytes = row.rest();
+        if let Err(fault) = is_part(row, &event(5, kind, &[], bytes.as_slice())) {
+            row.is_fault(fault.kind, fault.at);
         }
     }
 }
 
 // The one structure that the event has, or its fault.
-fn is_first(rt: &impl Abort, told: &mut &str, event: &Event<'_>) -> Result<(), EventDataFault> {
+fn is_part(row: &mut Row<'_>, event: &Event<'_>) -> Result<(), EventDataFault> {
     if let Some(read) = event.partition_table() {
-        are_partitions(rt, told, &read?);
+        are_partitions(row, &read?);
     } else if let Some(read) = event.firmware_blob() {
-        is_blob(rt, told, &read?);
-    } else {
-        return is_second(rt, told, event);
-    }
-    Ok(())
-}
-
-fn is_second(rt: &impl Abort, told: &mut &str, event: &Event<'_>) -> Result<(), EventDataFault> {
-    if let Some(read) = event.handoff_tables() {
-        are_tables(rt, told, &read?);
+        is_blob(row, &read?);
+    } else if let Some(read) = event.handoff_tables() {
+        are_tables(row, &read?);
     } else if let Some(read) = event.tagged_event() {
-        is_tag(rt, told, &read?);
+        is_tag(row, &read?);
     } else {
-        names(rt, told, "none");
+        row.is("none");
     }
     Ok(())
 }
 
-fn are_partitions(rt: &impl Abort, told: &mut &str, table: &PartitionTable<'_>) {
-    let (size, count) = (
-        Is::Count(table.size as u64),
-        Is::Count(table.count() as u64),
-    );
-    tells(rt, BYTES, told, &[Is::Bytes(table.disk), size, count]);
+fn are_partitions(row: &mut Row<'_>, table: &PartitionTable<'_>) {
+    row.has(table.disk);
+    row.prints(table.size);
+    row.prints(table.count());
     for which in 0..table.count() {
-        is_partition(rt, told, table.get(which));
+        is_partition(row, table.get(which));
     }
-    is_partition(rt, told, table.get(table.count()));
+    is_partition(row, table.get(table.count()));
 }
 
-fn is_partition(rt: &impl Abort, told: &mut &str, partition: Option<Partition<'_>>) {
-    match partition {
-        None => names(rt, told, "none"),
-        Some(partition) => tells(
-            rt,
-            BYTES,
-            told,
-            &[
-                Is::Bytes(partition.kind),
-                Is::Bytes(partition.guid),
-                Is::Count(partition.first),
-                Is::Count(partition.last),
-                Is::Code(partition.attributes),
-                Is::Bytes(partition.name),
-            ],
-        ),
-    }
+fn is_partition(row: &mut Row<'_>, partition: Option<Partition<'_>>) {
+    let Some(partition) = partition else {
+        return row.is("none");
+    };
+    row.has(partition.kind);
+    row.has(partition.guid);
+    row.prints(partition.first);
+    row.prints(partition.last);
+    row.is_code(partition.attributes);
+    row.has(partition.name);
 }
 
-fn is_blob(rt: &impl Abort, told: &mut &str, blob: &FirmwareBlob<'_>) {
-    let (base, size) = (Is::Code(blob.base), Is::Code(blob.size));
-    tells(rt, BYTES, told, &[base, size, Is::Bytes(blob.name)]);
+fn is_blob(row: &mut Row<'_>, blob: &FirmwareBlob<'_>) {
+    row.is_code(blob.base);
+    row.is_code(blob.size);
+    row.has(blob.name);
 }
 
-fn are_tables(rt: &impl Abort, told: &mut &str, tables: &HandoffTables<'_>) {
-    let count = Is::Count(tables.count() as u64);
-    tells(rt, BYTES, told, &[Is::Bytes(tables.name), count]);
+fn are_tables(row: &mut Row<'_>, tables: &HandoffTables<'_>) {
+    row.has(tables.name);
+    row.prints(tables.count());
     for which in 0..tables.count() {
-        is_table(rt, told, tables.get(which));
+        is_table(row, tables.get(which));
     }
-    is_table(rt, told, tables.get(tables.count()));
+    is_table(row, tables.get(tables.count()));
 }
 
-fn is_table(rt: &impl Abort, told: &mut &str, table: Option<HandoffTable<'_>>) {
-    match table {
-        None => names(rt, told, "none"),
-        Some(it) => tells(rt, BYTES, told, &[Is::Bytes(it.guid), Is::Code(it.address)]),
-    }
+fn is_table(row: &mut Row<'_>, table: Option<HandoffTable<'_>>) {
+    let Some(table) = table else {
+        return row.is("none");
+    };
+    row.has(table.guid);
+    row.is_code(table.address);
 }
 
-fn is_tag(rt: &impl Abort, told: &mut &str, tag: &TaggedEvent<'_>) {
-    let (id, value) = (Is::Code(tag.id as u64), Is::Bytes(tag.value));
-    let texts = (or_none(tag.text()), or_none(tag.text_units()));
-    tells(rt, BYTES, told, &[id, value, texts.0, texts.1]);
+fn is_tag(row: &mut Row<'_>, tag: &TaggedEvent<'_>) {
+    row.is_code(tag.id as u64);
+    row.has(tag.value);
+    row.may_have(tag.text());
+    row.may_have(tag.text_units());
 }
 
 #[test]
 fn what_events_have_and_their_first_fault_are_told(rt: HostRuntime) {
     rows::<Events>(
         &rt,
+        BYTES,
         "
         80000006 TABLE <99 is Truncated 0
         80000006 TABLE 7=74 is Signature 0
@@ -189,40 +175,31 @@ fn what_events_have_and_their_first_fault_are_told(rt: HostRuntime) {
 struct Variables;
 
 impl Asked for Variables {
-    fn ask<R: Abort>(rt: &R, mut given: &str, told: &mut &str) {
-        let guid = made(rt, BYTES, word(&mut given));
-        let name = made(rt, BYTES, word(&mut given));
-        let value = made(rt, BYTES, given);
+    fn ask(row: &mut Row<'_>) {
+        let guid = row.bytes();
+        let name = row.bytes();
+        let value = row.rest();
         let variable = Variable {
             guid: guid.as_slice(),
             name: name.as_slice(),
             value: value.as_slice(),
         };
-        is_boot(rt, told, &variable);
+        match variable.load_option() {
+            Some(read) => is_option(row, read),
+            None => row.may_have(variable.boot_order()),
+        }
     }
 }
 
-fn is_boot(rt: &impl Abort, told: &mut &str, variable: &Variable<'_>) {
-    match variable.load_option() {
-        Some(read) => is_option(rt, told, read),
-        None => tells(rt, BYTES, told, &[or_none(variable.boot_order())]),
-    }
-}
-
-fn is_option(rt: &impl Abort, told: &mut &str, read: Result<LoadOption<'_>, EventDataFault>) {
+fn is_option(row: &mut Row<'_>, read: Result<LoadOption<'_>, EventDataFault>) {
     match read {
-        Err(fault) => faults(rt, told, fault.kind, fault.at as u64),
-        Ok(option) => tells(
-            rt,
-            BYTES,
-            told,
-            &[
-                Is::Code(option.attributes as u64),
-                Is::Bytes(option.description),
-                Is::Bytes(option.path),
-                Is::Bytes(option.value),
-            ],
-        ),
+        Ok(option) => {
+            row.is_code(option.attributes as u64);
+            row.has(option.description);
+            row.has(option.path);
+            row.has(option.value);
+        }
+        Err(fault) => row.is_fault(fault.kind, fault.at),
     }
 }
 
@@ -230,6 +207,7 @@ fn is_option(rt: &impl Abort, told: &mut &str, read: Result<LoadOption<'_>, Even
 fn boot_variables_are_told(rt: HostRuntime) {
     rows::<Variables>(
         &rt,
+        BYTES,
         "
         # Boot000A, and what is called nearly so
         GLOBAL 42006f006f0074003000300030004100 OPTION is 1 UBUNTU PATH 0102
@@ -254,8 +232,9 @@ fn boot_variables_are_told(rt: HostRuntime) {
 struct Options;
 
 impl Asked for Options {
-    fn ask<R: Abort>(rt: &R, given: &str, told: &mut &str) {
-        is_option(rt, told, load_option(made(rt, BYTES, given).as_slice()));
+    fn ask(row: &mut Row<'_>) {
+        let bytes = row.rest();
+        is_option(row, load_option(bytes.as_slice()));
     }
 }
 
@@ -263,6 +242,7 @@ impl Asked for Options {
 fn load_options_are_lent(rt: HostRuntime) {
     rows::<Options>(
         &rt,
+        BYTES,
         "
         OPTION is 1 UBUNTU PATH 0102
         OPTION <5 is Truncated 0

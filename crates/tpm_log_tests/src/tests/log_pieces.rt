@@ -1,12 +1,11 @@
 //! Logs that are fed in pieces.
 
 use crate::tests::log_parsed::{LOGS, have, is_fault};
-use crate::tests::rows::{Asked, holds, made, number, rows};
-use std::process::Abort;
+use crate::tests::rows::{Asked, Row, made, rows};
 use std::test::*;
 use tpm_log::{LogFault, LogReplay, replay_into};
 use tpm_pcr::Registers;
-use tpm_testing::word;
+use tpm_types::{Alg, register};
 
 // What is answered to a log that is fed in pieces of so many bytes, and to nothing behind each.
 pub(crate) fn fed(log: &[u8], most: usize) -> Result<Registers, LogFault> {
@@ -27,162 +26,151 @@ pub(crate) fn fed_in_two(log: &[u8], at: usize) -> Result<Registers, LogFault> {
     replay.end()
 }
 
-// The answer is the fault that is told.
-pub(crate) fn has_fault<T: Drop>(rt: &impl Abort, answer: Result<T, LogFault>, mut told: &str) {
+// Whether the answer is the fault that is told.
+pub(crate) fn has_fault<T: Drop>(answer: Result<T, LogFault>, told: &str) -> bool {
     match answer {
-        Ok(_) => panic!(rt; "{told}"),
-        Err(fault) => is_fault(rt, &mut told, fault),
+        Ok(_) => false,
+        Err(fault) => is_fault(told, fault),
     }
 }
 
-// What is told of register 7 after the worked log.
-const SEVENTH: &str = "000b 7 3d458cfe55cc03ea1f443f1562beec8df51c75e14a9fcf9a7234a13f198e7969";
+// What is done with a replay, in turn, and then its end; and what each answers. To `registers` and to the end that is
+// the value of register 7 of SHA-256, or a fault; to a piece `ok`, or a fault. `N*SIZE` are N pieces of so many zeros,
+// of which the last one is answered.
+struct Replays;
 
-fn goes_on(rt: &impl Abort, replay: &mut LogReplay, piece: &[u8]) {
-    holds(rt, replay.feed(piece).is_ok(), "a piece");
+impl Asked for Replays {
+    fn ask(row: &mut Row<'_>) {
+        let mut replay = LogReplay::new();
+        for step in row.given.split(';') {
+            is_stepped(row, &mut replay, step.trim());
+        }
+        match replay.end() {
+            Ok(registers) => has_seventh(row, &registers),
+            Err(fault) => row.is_fault(fault.kind, fault.at),
+        }
+    }
 }
 
-fn are_again(rt: &impl Abort, registers: &mut Registers) {
-    let log = made(rt, LOGS, "WORKED");
-    let cut = made(rt, LOGS, "WORKED <214");
-    holds(rt, replay_into(log.as_slice(), registers).is_ok(), "a log");
-    have(rt, SEVENTH, registers);
-    has_fault(rt, replay_into(cut.as_slice(), registers), "Truncated 211");
+fn has_seventh(row: &mut Row<'_>, registers: &Registers) {
+    row.has(registers.read(Alg::Sha256, register(7)).as_slice());
+}
+
+fn is_stepped(row: &mut Row<'_>, replay: &mut LogReplay, step: &str) {
+    match step {
+        "restart" => replay.restart(),
+        "registers" => match replay.registers() {
+            Ok(registers) => has_seventh(row, registers),
+            Err(fault) => row.is_fault(fault.kind, fault.at),
+        },
+        _ => match feed(row, replay, step) {
+            Ok(()) => row.is("ok"),
+            Err(fault) => row.is_fault(fault.kind, fault.at),
+        },
+    }
+}
+
+fn feed(row: &mut Row<'_>, replay: &mut LogReplay, step: &str) -> Result<(), LogFault> {
+    match step.split_once('*') {
+        Some((count, size)) => {
+            let count = row.known(count.parse().ok());
+            let size = row.known(size.parse().ok());
+            feed_zeros(replay, count, size)
+        }
+        None => replay.feed(row.of(step).as_slice()),
+    }
+}
+
+fn feed_zeros(replay: &mut LogReplay, count: usize, size: usize) -> Result<(), LogFault> {
+    let mut last = Ok(());
+    for _ in 0..count {
+        last = replay.feed(&[0; 4096][..size.min(4096)]);
+    }
+    last
+}
+
+#[test]
+fn a_replay_answers_to_each_piece(rt: HostRuntime) {
+    rows::<Replays>(
+        &rt,
+        LOGS,
+        "
+        # It is used again, whatever it was fed.
+        WORKED; registers; restart; WORKED <214; registers is ok SEVENTH ok Truncated 211 Truncated 211
+        WORKED <214; restart; 01000000; registers is ok NotCryptoAgile 0 NotCryptoAgile 0 NotCryptoAgile 0
+        01000000; restart; WORKED; registers is NotCryptoAgile 0 ok SEVENTH SEVENTH
+        01000000; restart; WORKED <214; restart; WORKED is NotCryptoAgile 0 ok ok SEVENTH
+        # The first record behind the header names register 17, and this is answered as soon as that is read, and from
+        # then on.
+        HEADER; 11000000040000; -; 00; -; 1*600 is ok ok ok BadRegister 73 BadRegister 73 BadRegister 73 BadRegister 73
+        # Behind the header zeros are records of 16 bytes, at register 0 and of type 0: 73 + 4,095 * 4,096 + 4,016 =
+        # 16,777,209, where a record could end the log.
+        HEADER; 4095*4096; 1*4016; 00 is ok ok ok TooLong 16777209 TooLong 16777209
+        # A header's event that is longer than any, of 1,000 bytes, where its list ends behind 41, has its fault only
+        # where all of it came; where the bytes end before, that is the fault.
+        HEADER 28=e8 29=03; 1*958; 00 is ok ok BadHeader 73 BadHeader 73
+        HEADER 28=e8 29=03; 958*1 is ok ok Truncated 32
+        HEADER 28=e8 29=03; 959*1 is ok BadHeader 73 BadHeader 73
+        HEADER 28=e8 29=03; 960*1 is ok BadHeader 73 BadHeader 73
+        ",
+    );
 }
 
 #[test]
 fn registers_are_used_again(rt: HostRuntime) {
+    let log = made(LOGS, "WORKED").expect(&rt, "a log");
+    let (cut, _) = log.as_slice().split_at(log.len().min(214));
     let mut registers = Registers::new();
-    are_again(&rt, &mut registers);
-    are_again(&rt, &mut registers);
-}
-
-fn is_again(rt: &impl Abort, replay: &mut LogReplay) {
-    goes_on(rt, replay, made(rt, LOGS, "WORKED").as_slice());
-    match replay.registers() {
-        Ok(registers) => have(rt, SEVENTH, registers),
-        Err(fault) => is_fault(rt, &mut "", fault),
+    for _ in 0..2 {
+        assert!(rt; replay_into(log.as_slice(), &mut registers).is_ok());
+        assert!(rt;
+            have(
+                "000b 7 3d458cfe55cc03ea1f443f1562beec8df51c75e14a9fcf9a7234a13f198e7969",
+                &registers
+            )
+        );
+        assert!(rt; has_fault(replay_into(cut, &mut registers), "Truncated 211"));
     }
-    replay.restart();
-    goes_on(rt, replay, made(rt, LOGS, "WORKED <214").as_slice());
-    has_fault(rt, replay.registers(), "Truncated 211");
-    replay.restart();
-    has_fault(rt, replay.feed(&[1, 0, 0, 0]), "NotCryptoAgile 0");
-    has_fault(rt, replay.registers(), "NotCryptoAgile 0");
-    replay.restart();
-}
-
-#[test]
-fn a_replay_is_used_again(rt: HostRuntime) {
-    let mut replay = LogReplay::new();
-    is_again(&rt, &mut replay);
-    is_again(&rt, &mut replay);
-}
-
-// What was fed these bytes.
-fn behind(rt: &impl Abort, words: &str) -> LogReplay {
-    let mut replay = LogReplay::new();
-    goes_on(rt, &mut replay, made(rt, LOGS, words).as_slice());
-    replay
-}
-
-// The first record behind the header names register 17, and this is answered as soon as that is read, and from then
-// on.
-#[test]
-fn a_fault_stands(rt: HostRuntime) {
-    let told = "BadRegister 73";
-    let mut replay = behind(&rt, "HEADER");
-    goes_on(&rt, &mut replay, &[17, 0, 0, 0, 4, 0, 0]);
-    goes_on(&rt, &mut replay, &[]);
-    has_fault(&rt, replay.feed(&[0]), told);
-    has_fault(&rt, replay.feed(&[]), told);
-    has_fault(&rt, replay.feed(&[0; 600]), told);
-    has_fault(&rt, replay.end(), told);
-}
-
-// Behind the header zeros are records of 16 bytes, at register 0 and of type 0.
-#[test]
-fn a_log_that_never_ends_is_too_long(rt: HostRuntime) {
-    let mut replay = behind(&rt, "HEADER");
-    // 73 + 4,095 * 4,096 + 4,016 = 16,777,209, where a record could end the log.
-    for _ in 0..4095 {
-        goes_on(&rt, &mut replay, &[0; 4096]);
-    }
-    goes_on(&rt, &mut replay, &[0; 4016]);
-    has_fault(&rt, replay.feed(&[0]), "TooLong 16777209");
-}
-
-// The header, of which the event has 1,000 bytes, where its list ends behind 41.
-const LONG_HEADER: &str = "HEADER 28=e8 29=03";
-
-// How many bytes come behind the long header, one by one, and the fault at their end.
-struct AtEnd;
-
-impl Asked for AtEnd {
-    fn ask<R: Abort>(rt: &R, given: &str, told: &mut &str) {
-        let mut replay = behind(rt, LONG_HEADER);
-        for _ in 0..number(rt, given) {
-            let _ = replay.feed(&[0]);
-        }
-        has_fault(rt, replay.end(), told);
-        *told = "";
-    }
-}
-
-// A header's event that is longer than any has its fault only where all of it came; where the bytes end
-// before, that is the fault.
-#[test]
-fn a_long_header_has_its_fault_at_its_end(rt: HostRuntime) {
-    let mut replay = behind(&rt, LONG_HEADER);
-    goes_on(&rt, &mut replay, &[0; 958]);
-    has_fault(&rt, replay.feed(&[0]), "BadHeader 73");
-    rows::<AtEnd>(
-        &rt,
-        "
-        958 is Truncated 32
-        959 is BadHeader 73
-        960 is BadHeader 73
-        ",
-    );
 }
 
 // The fault of this log is told as soon as so many bytes of it came.
 struct InTime;
 
 impl Asked for InTime {
-    fn ask<R: Abort>(rt: &R, mut given: &str, told: &mut &str) {
-        let shown = number(rt, word(&mut given)) as usize;
-        let bytes = made(rt, LOGS, given);
+    fn ask(row: &mut Row<'_>) {
+        let shown = row.number() as usize;
+        let bytes = row.rest();
         for cut in 0..bytes.len().saturating_add(1) {
-            in_two(rt, bytes.as_slice(), cut, shown, told);
+            let is_so = in_two(bytes.as_slice(), cut, shown, row.told);
+            row.holds(is_so);
         }
-        by_bytes(rt, bytes.as_slice(), shown, told);
-        *told = "";
+        row.holds(by_bytes(bytes.as_slice(), shown, row.told));
+        row.told = "";
     }
 }
 
-fn is_shown(rt: &impl Abort, answer: Result<(), LogFault>, shown: bool, told: &str) {
-    if shown {
-        has_fault(rt, answer, told);
-    } else {
-        holds(rt, answer.is_ok(), told);
+fn is_shown(answer: Result<(), LogFault>, shown: bool, told: &str) -> bool {
+    match answer {
+        Ok(()) => !shown,
+        Err(fault) => shown && is_fault(told, fault),
     }
 }
 
-fn in_two(rt: &impl Abort, bytes: &[u8], cut: usize, shown: usize, told: &str) {
+fn in_two(bytes: &[u8], cut: usize, shown: usize, told: &str) -> bool {
     let (front, back) = bytes.split_at(cut.min(bytes.len()));
     let mut replay = LogReplay::new();
-    is_shown(rt, replay.feed(front), shown <= cut, told);
-    has_fault(rt, replay.feed(back), told);
+    is_shown(replay.feed(front), shown <= cut, told) && is_shown(replay.feed(back), true, told)
 }
 
-fn by_bytes(rt: &impl Abort, bytes: &[u8], shown: usize, told: &str) {
+fn by_bytes(bytes: &[u8], shown: usize, told: &str) -> bool {
     let mut replay = LogReplay::new();
     let mut fed: usize = 0;
+    let mut is_so = true;
     for byte in bytes {
         fed = fed.saturating_add(1);
-        is_shown(rt, replay.feed(&[*byte]), shown <= fed, told);
+        is_so = is_so && is_shown(replay.feed(&[*byte]), shown <= fed, told);
     }
+    is_so
 }
 
 // Each fault is that of the longer log from the last byte of its token on, and one of the header's event from
@@ -191,6 +179,7 @@ fn by_bytes(rt: &impl Abort, bytes: &[u8], shown: usize, told: &str) {
 fn a_fault_is_told_with_the_piece_that_shows_it(rt: HostRuntime) {
     rows::<InTime>(
         &rt,
+        LOGS,
         "
         8 WORKED 4=04 is NotCryptoAgile 4
         72 WORKED 28=28 is BadHeader 72

@@ -1,9 +1,8 @@
 //! Quotes that a software TPM signed, beside the logs whose records it was extended with: what `tpm2_quote
 //! -m` wrote of them. Their signatures are those of the keys in checks/quotes.
 
-use crate::tests::quote_quotes::{are_selected, is_refusal};
-use crate::tests::rows::{Asked, Is, hash, holds, made, names, rows, tells};
-use std::process::Abort;
+use crate::tests::quote_quotes::{is_quote, is_refusal};
+use crate::tests::rows::{Asked, Row, made, rows};
 use std::test::*;
 use tpm_boot_laws::boot_to_quote;
 use tpm_log::replay;
@@ -13,8 +12,7 @@ use tpm_quote::{
     AttestFault, NotSelected, check_attest, decode_attest, first_not_selected, nonce_matches,
     selects_none,
 };
-use tpm_testing::word;
-use tpm_types::{Alg, Attest, ClockInfo, Lent, Selection, Selections};
+use tpm_types::{Attest, ClockInfo, Lent, Selection, Selections};
 use tpm_vouched::laws::records_of_the_quote;
 use tpm_wire::{Buffer, Refusal};
 
@@ -144,55 +142,45 @@ const END: usize = 121;
 struct Attests;
 
 impl Asked for Attests {
-    fn ask<R: Abort>(rt: &R, given: &str, told: &mut &str) {
-        let bytes = made(rt, BYTES, given);
+    fn ask(row: &mut Row<'_>) {
+        let bytes = row.rest();
         match decode_attest(bytes.as_slice()) {
             Ok(attest) => {
-                has_parts(rt, told, &attest);
-                is_spelled(rt, &attest, bytes.as_slice());
+                has_parts(row, &attest);
+                row.holds(is_spelled(&attest, bytes.as_slice()));
             }
-            Err(refusal) => is_refusal(rt, told, refusal),
+            Err(refusal) => is_refusal(row, refusal),
         }
     }
 }
 
-fn has_parts(rt: &impl Abort, told: &mut &str, attest: &Attest<'_>) {
+fn has_parts(row: &mut Row<'_>, attest: &Attest<'_>) {
     let clock_info = &attest.clock_info;
-    tells(
-        rt,
-        BYTES,
-        told,
-        &[
-            Is::Bytes(attest.signer.as_slice()),
-            Is::Bytes(attest.extra_data.as_slice()),
-            Is::Code(clock_info.clock),
-            Is::Count(clock_info.reset_count as u64),
-            Is::Count(clock_info.restart_count as u64),
-            Is::Name(if clock_info.safe { "safe" } else { "unsafe" }),
-            Is::Code(attest.firmware_version),
-        ],
-    );
-    are_selected(rt, told, attest.quote.selections.as_slice());
-    tells(
-        rt,
-        BYTES,
-        told,
-        &[Is::Bytes(attest.quote.digest.as_slice())],
-    );
+    row.has(attest.signer.as_slice());
+    row.has(attest.extra_data.as_slice());
+    row.is_code(clock_info.clock);
+    row.prints(clock_info.reset_count);
+    row.prints(clock_info.restart_count);
+    row.is(if clock_info.safe { "safe" } else { "unsafe" });
+    row.is_code(attest.firmware_version);
+    is_quote(row, &attest.quote);
 }
 
-fn is_spelled(rt: &impl Abort, attest: &Attest<'_>, bytes: &[u8]) {
+fn is_spelled(attest: &Attest<'_>, bytes: &[u8]) -> bool {
     let len = attest.len();
-    assert!(rt; len <= 4096);
+    if len > 4096 {
+        return false;
+    }
     let mut out = Buffer::new();
     attest.put(&mut out);
-    holds(rt, out.as_slice() == bytes && len == bytes.len(), "spelled");
+    out.as_slice() == bytes && len == bytes.len()
 }
 
 #[test]
 fn each_part_of_a_quote_is_decoded_and_put_back(rt: HostRuntime) {
     rows::<Attests>(
         &rt,
+        BYTES,
         "
         RSA_SHA1 is SIGNER SENT 49c 1 0 safe 2019102300163636 4 ff0000 e215d07ab7586c5886cb9f004151306057d0de8f
         NOT_MEASURED is OTHER_SIGNER SENT 357 1 0 safe 2019102300163636 b 001c00 OTHER_DIGEST
@@ -220,9 +208,9 @@ fn each_part_of_a_quote_is_decoded_and_put_back(rt: HostRuntime) {
 
 #[test]
 fn a_quote_is_spelled_from_its_parts(rt: HostRuntime) {
-    let signer = made(&rt, BYTES, "OTHER_SIGNER");
-    let nonce = made(&rt, BYTES, "SENT");
-    let bytes = made(&rt, BYTES, "NOT_MEASURED");
+    let signer = made(BYTES, "OTHER_SIGNER").expect(&rt, "bytes");
+    let nonce = made(BYTES, "SENT").expect(&rt, "bytes");
+    let bytes = made(BYTES, "NOT_MEASURED").expect(&rt, "bytes");
     let decoded = decode_attest(bytes.as_slice()).ok().expect(&rt, "a quote");
     let attest = Attest {
         signer: Lent::new(signer.as_slice()).expect(&rt, "a Name"),
@@ -236,12 +224,8 @@ fn a_quote_is_spelled_from_its_parts(rt: HostRuntime) {
         firmware_version: 0x2019_1023_0016_3636,
         quote: decoded.quote,
     };
-    is_spelled(&rt, &attest, bytes.as_slice());
-    holds(
-        &rt,
-        Lent::<66>::new(&[0; 67]).is_none(),
-        "a Name of 67 bytes",
-    );
+    assert!(rt; is_spelled(&attest, bytes.as_slice()));
+    assert!(rt; Lent::<66>::new(&[0; 67]).is_none());
 }
 
 // Where the last token begins that begins within so many bytes.
@@ -258,85 +242,85 @@ fn token_at(end: usize) -> u32 {
 // Cut behind each byte: the token that is too short is at fault.
 #[test]
 fn a_quote_that_is_cut_has_a_fault(rt: HostRuntime) {
-    let bytes = made(&rt, BYTES, "RSA_SHA1");
-    holds(&rt, bytes.len() == END, "its length");
+    let bytes = made(BYTES, "RSA_SHA1").expect(&rt, "bytes");
+    assert!(rt; bytes.len() == END);
     for end in 0..END {
         let (front, _) = bytes.as_slice().split_at(end.min(bytes.len()));
-        let fault = Refusal {
-            code: 0x9A,
-            at: token_at(end),
-        };
-        holds(&rt, decode_attest(front).err() == Some(fault), "its fault");
+        let (code, at) = (0x9A, token_at(end));
+        assert!(rt;
+            decode_attest(front).err() == Some(Refusal { code, at }),
+            "{end}"
+        );
     }
     let found = decode_attest(&[0xff; 5000]).err();
-    holds(&rt, found == Some(Refusal { code: 0x84, at: 0 }), "ones");
+    assert!(rt; found == Some(Refusal { code: 0x84, at: 0 }));
 }
 
-// These registers of a bank, and of no other; or of none.
-fn required(rt: &impl Abort, hash: Alg, text: &str) -> Selections {
-    match made(rt, "", text).as_slice() {
+// The next word is these registers of a bank, and of no other; or of none.
+fn required(row: &mut Row<'_>) -> Selections {
+    let hash = row.bank();
+    match row.bytes().as_slice() {
         [first, second, third] => {
             let select = [*first, *second, *third];
-            Selections::new(&[Selection { hash, select }]).expect(rt, text)
+            row.known(Selections::new(&[Selection { hash, select }]))
         }
         _ => Selections::default(),
     }
 }
 
-fn registers_after(rt: &impl Abort, log: &str) -> Registers {
-    let records = match log {
-        "SEABIOS" => SEABIOS,
-        "OVMF" => OVMF,
+// The registers after the log that is given next, or after none.
+fn registers_after(row: &mut Row<'_>) -> Registers {
+    let log = match row.word() {
+        "SEABIOS" => row.of(SEABIOS),
+        "OVMF" => row.of(OVMF),
         _ => return Registers::new(),
     };
-    replay(made(rt, "", records).as_slice())
-        .ok()
-        .expect(rt, log)
+    let replayed = replay(log.as_slice());
+    row.holds(replayed.is_ok());
+    replayed.unwrap_or(Registers::new())
 }
 
 // A log, the hash of the signature, the nonce, what registers of which bank are required, and a quote.
 struct Answers;
 
 impl Asked for Answers {
-    fn ask<R: Abort>(rt: &R, mut given: &str, told: &mut &str) {
-        let registers = registers_after(rt, word(&mut given));
-        let by = hash(rt, word(&mut given));
-        let nonce = made(rt, BYTES, word(&mut given));
-        let bank = hash(rt, word(&mut given));
-        let required = required(rt, bank, word(&mut given));
-        let bytes = made(rt, BYTES, given);
-        let attest = decode_attest(bytes.as_slice()).ok().expect(rt, given);
-        let answer = check_attest(&registers, &attest, by, nonce.as_slice(), &required);
-        is_answer(rt, told, answer);
-        let says_nonce = !nonce_matches(&attest, nonce.as_slice());
-        holds(rt, says_nonce == (answer == Err(AttestFault::Nonce)), given);
+    fn ask(row: &mut Row<'_>) {
+        let registers = registers_after(row);
+        let by = row.bank();
+        let nonce = row.bytes();
+        let required = required(row);
+        match decode_attest(row.rest().as_slice()) {
+            Ok(attest) => {
+                let answer = check_attest(&registers, &attest, by, nonce.as_slice(), &required);
+                row.holds(
+                    nonce_matches(&attest, nonce.as_slice()) != (answer == Err(AttestFault::Nonce)),
+                );
+                is_answer(row, answer);
+            }
+            Err(_) => row.holds(false),
+        }
     }
 }
 
-fn is_answer(rt: &impl Abort, told: &mut &str, answer: Result<(), AttestFault>) {
-    let name = match answer {
-        Ok(()) => "right",
-        Err(AttestFault::Nonce) => "nonce",
-        Err(AttestFault::Digest) => "digest",
-        Err(AttestFault::NotSelected(missing)) => return lacks(rt, told, missing),
-    };
-    names(rt, told, name);
+fn is_answer(row: &mut Row<'_>, answer: Result<(), AttestFault>) {
+    match answer {
+        Ok(()) => row.is("right"),
+        Err(AttestFault::Nonce) => row.is("nonce"),
+        Err(AttestFault::Digest) => row.is("digest"),
+        Err(AttestFault::NotSelected(missing)) => lacks(row, missing),
+    }
 }
 
-pub(crate) fn lacks(rt: &impl Abort, told: &mut &str, missing: NotSelected) {
-    let bank = Is::Code(missing.bank.number() as u64);
-    tells(
-        rt,
-        "",
-        told,
-        &[bank, Is::Count(missing.register.number() as u64)],
-    );
+pub(crate) fn lacks(row: &mut Row<'_>, missing: NotSelected) {
+    row.is_code(missing.bank.number() as u64);
+    row.prints(missing.register.number());
 }
 
 #[test]
 fn a_quote_of_the_registers_after_its_log_is_the_one_that_was_asked_for(rt: HostRuntime) {
     rows::<Answers>(
         &rt,
+        BYTES,
         "
         SEABIOS 000b SENT 000b 001c00 NOT_MEASURED is right
         OVMF 0004 SENT 0004 ff0000 RSA_SHA1 is right
@@ -367,27 +351,39 @@ fn a_quote_of_the_registers_after_its_log_is_the_one_that_was_asked_for(rt: Host
     records_of_the_quote();
 }
 
+// A quote of these bytes, and the registers of a bank.
+struct Selects;
+
+impl Asked for Selects {
+    fn ask(row: &mut Row<'_>) {
+        let required = required(row);
+        match decode_attest(row.rest().as_slice()) {
+            Ok(attest) => are_selected(row, &attest.quote.selections, &required),
+            Err(_) => row.holds(false),
+        }
+    }
+}
+
+fn are_selected(row: &mut Row<'_>, quoted: &Selections, required: &Selections) {
+    row.prints(selects_none(quoted));
+    row.prints(selects_none(required));
+    match first_not_selected(quoted, required) {
+        Some(missing) => lacks(row, missing),
+        None => row.is("none"),
+    }
+}
+
 #[test]
 fn a_quote_of_no_register_selects_none(rt: HostRuntime) {
-    let bytes = made(&rt, BYTES, "ALL <89 NOTHING");
-    let attest = decode_attest(bytes.as_slice()).ok().expect(&rt, "a quote");
-    holds(
+    rows::<Selects>(
         &rt,
-        selects_none(&attest.quote.selections),
-        "a quote of nothing",
+        BYTES,
+        "
+        000b 010000 ALL <89 NOTHING is true false b 0
+        000b - ALL <89 NOTHING is true true none
+        # no entry, and the digest of none
+        000b 010000 ALL <89 00000000 0000 is true false b 0
+        000b - ALL <89 00000000 0000 is true true none
+        ",
     );
-    let one = required(&rt, Alg::Sha256, "010000");
-    let nothing = Selections::default();
-    holds(
-        &rt,
-        !selects_none(&one) && selects_none(&nothing),
-        "a selection",
-    );
-    holds(
-        &rt,
-        first_not_selected(&nothing, &nothing).is_none(),
-        "of nothing",
-    );
-    let missing = first_not_selected(&nothing, &one).expect(&rt, "a register");
-    lacks(&rt, &mut "b 0", missing);
 }

@@ -1,13 +1,11 @@
 //! Quotes from their bytes, beside the registers after a log.
 
 use crate::tests::log_parsed::LOGS;
-use crate::tests::rows::{Asked, Is, hash, holds, made, prints, rows, tells};
-use std::process::Abort;
+use crate::tests::rows::{Asked, Row, made, rows};
 use std::test::*;
 use tpm_log::replay;
 use tpm_quote::{check_quote, decode_quote};
-use tpm_testing::word;
-use tpm_types::Selection;
+use tpm_types::QuoteInfo;
 use tpm_wire::Refusal;
 
 // QUOTE is pcrSelect, of which the one entry has register 23 of SHA-256, and pcrDigest, of its value after the log
@@ -18,28 +16,28 @@ const BYTES: &str = "
 ";
 
 // A code, and its place.
-pub(crate) fn is_refusal(rt: &impl Abort, told: &mut &str, refusal: Refusal) {
-    let (code, at) = (Is::Code(refusal.code as u64), Is::Count(refusal.at as u64));
-    tells(rt, "", told, &[Is::Name("refused"), code, at]);
+pub(crate) fn is_refusal(row: &mut Row<'_>, refusal: Refusal) {
+    row.is("refused");
+    row.is_code(refusal.code as u64);
+    row.prints(refusal.at);
 }
 
-pub(crate) fn are_selected(rt: &impl Abort, told: &mut &str, selections: &[Selection]) {
-    for selection in selections {
-        let hash = Is::Code(selection.hash.number() as u64);
-        tells(rt, "", told, &[hash, Is::Bytes(&selection.select)]);
+// Each selection, and the digest.
+pub(crate) fn is_quote(row: &mut Row<'_>, quote: &QuoteInfo) {
+    for selection in quote.selections.as_slice() {
+        row.is_code(selection.hash.number() as u64);
+        row.has(&selection.select);
     }
+    row.has(quote.digest.as_slice());
 }
 
 struct Quotes;
 
 impl Asked for Quotes {
-    fn ask<R: Abort>(rt: &R, given: &str, told: &mut &str) {
-        match decode_quote(made(rt, BYTES, given).as_slice()) {
-            Ok(quote) => {
-                are_selected(rt, told, quote.selections.as_slice());
-                tells(rt, BYTES, told, &[Is::Bytes(quote.digest.as_slice())]);
-            }
-            Err(refusal) => is_refusal(rt, told, refusal),
+    fn ask(row: &mut Row<'_>) {
+        match decode_quote(row.rest().as_slice()) {
+            Ok(quote) => is_quote(row, &quote),
+            Err(refusal) => is_refusal(row, refusal),
         }
     }
 }
@@ -48,6 +46,7 @@ impl Asked for Quotes {
 fn a_quote_is_decoded(rt: HostRuntime) {
     rows::<Quotes>(
         &rt,
+        BYTES,
         "
         QUOTE is b 000080 DIGEST
         - is refused 9a 0
@@ -71,21 +70,22 @@ fn a_quote_is_decoded(rt: HostRuntime) {
 fn more_than_a_buffer_has_is_refused(rt: HostRuntime) {
     let zeros = decode_quote(&[0; 5000]).err();
     let ones = decode_quote(&[0xff; 5000]).err();
-    holds(&rt, zeros == Some(Refusal { code: 0x95, at: 6 }), "zeros");
-    holds(&rt, ones == Some(Refusal { code: 0x95, at: 0 }), "ones");
+    assert!(rt; zeros == Some(Refusal { code: 0x95, at: 6 }));
+    assert!(rt; ones == Some(Refusal { code: 0x95, at: 0 }));
 }
 
 // A log, a hash, and a quote.
 struct Beside;
 
 impl Asked for Beside {
-    fn ask<R: Abort>(rt: &R, mut given: &str, told: &mut &str) {
-        let log = made(rt, LOGS, word(&mut given));
-        let registers = replay(log.as_slice()).ok().expect(rt, given);
-        let hash = hash(rt, word(&mut given));
-        match decode_quote(made(rt, BYTES, given).as_slice()) {
-            Ok(quote) => prints(rt, told, check_quote(&registers, &quote, hash)),
-            Err(refusal) => is_refusal(rt, told, refusal),
+    fn ask(row: &mut Row<'_>) {
+        let log = made(LOGS, row.word());
+        let log = row.known(log);
+        let bank = row.bank();
+        let bytes = row.rest();
+        match (replay(log.as_slice()), decode_quote(bytes.as_slice())) {
+            (Ok(registers), Ok(quote)) => row.prints(check_quote(&registers, &quote, bank)),
+            _ => row.holds(false),
         }
     }
 }
@@ -94,6 +94,7 @@ impl Asked for Beside {
 fn a_quote_of_the_registers_after_a_log_matches(rt: HostRuntime) {
     rows::<Beside>(
         &rt,
+        BYTES,
         "
         ORDER 000b QUOTE is true
         ORDER 000c QUOTE is false

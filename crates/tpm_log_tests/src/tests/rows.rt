@@ -6,54 +6,31 @@ use std::fmt::{Debug, Write};
 use std::process::Abort;
 use std::test::*;
 use tpm_event_data::Event;
-use tpm_testing::word;
-use tpm_types::Alg;
+use tpm_testing::{bytes, number, word};
+use tpm_types::{Alg, PcrIndex};
 use tpm_wire::Buffer;
 
 /// What is asked of a row.
 pub(crate) trait Asked {
-    /// What was given is told in these words, which are all taken.
-    fn ask<R: Abort>(rt: &R, given: &str, told: &mut &str);
+    /// What was given is told in the row's words, which are all taken.
+    fn ask(row: &mut Row<'_>);
 }
 
-/// Asks each row of these lines.
-pub(crate) fn rows<T: Asked>(rt: &impl Abort, lines: &str) {
+/// Asks each row of these lines. A word that begins a line of the table stands for the bytes behind it.
+pub(crate) fn rows<T: Asked>(rt: &impl Abort, table: &str, lines: &str) {
     for line in lines.lines() {
-        let line = line.trim();
-        match line.split_once(" is ") {
-            Some((given, told)) if !line.starts_with('#') => asks::<T>(rt, given, told),
-            _ => holds(rt, line.is_empty() || line.starts_with('#'), line),
-        }
+        assert!(rt; is_so::<T>(table, line.trim()), "{line}");
     }
 }
 
-fn asks<T: Asked>(rt: &impl Abort, given: &str, mut told: &str) {
-    T::ask(rt, given, &mut told);
-    holds(rt, told.is_empty(), told);
-}
-
-/// It holds of this.
-pub(crate) fn holds(rt: &impl Abort, told: bool, of: &str) {
-    assert!(rt; told, "{of}");
-}
-
-/// The number of decimal digits.
-pub(crate) fn number(rt: &impl Abort, text: &str) -> u32 {
-    text.parse().ok().expect(rt, text)
-}
-
-/// The number of hexadecimal digits.
-pub(crate) fn code(rt: &impl Abort, text: &str) -> u32 {
-    tpm_testing::number(text).expect(rt, text)
-}
-
-/// The hash of this number.
-pub(crate) fn hash(rt: &impl Abort, text: &str) -> Alg {
-    match text {
-        "0004" => Alg::Sha1,
-        "000b" => Alg::Sha256,
-        "000c" => Alg::Sha384,
-        _ => panic!(rt; "{text}"),
+fn is_so<T: Asked>(table: &str, line: &str) -> bool {
+    match line.split_once(" is ") {
+        Some((given, told)) if !line.starts_with('#') => {
+            let mut row = Row::new(table, given, told);
+            T::ask(&mut row);
+            row.is_told()
+        }
+        _ => line.is_empty() || line.starts_with('#'),
     }
 }
 
@@ -68,54 +45,39 @@ fn named<'a>(table: &'a str, name: &'a str) -> &'a str {
     name
 }
 
-fn put(rt: &impl Abort, out: &mut Buffer, text: &str) {
-    let bytes = tpm_testing::bytes(text).expect(rt, text);
-    holds(
-        rt,
-        out.try_extend_from_slice(bytes.as_slice()).is_ok(),
-        text,
-    );
-}
-
-fn change(rt: &impl Abort, out: &mut Buffer, at: &str, byte: &str) {
-    let byte = u8::from_str_radix(byte, 16).ok().expect(rt, byte);
-    match out.as_mut_slice().get_mut(number(rt, at) as usize) {
-        Some(place) => *place = byte,
-        None => panic!(rt; "{at}"),
-    }
-}
-
-fn put_word(rt: &impl Abort, table: &str, out: &mut Buffer, word: &str) {
+fn put_word(table: &str, out: &mut Buffer, word: &str) -> Option<()> {
     if let Some((at, byte)) = word.split_once('=') {
-        change(rt, out, at, byte);
+        let place = out.as_mut_slice().get_mut(at.parse::<usize>().ok()?)?;
+        *place = u8::from_str_radix(byte, 16).ok()?;
     } else if let Some(size) = word.strip_prefix('<') {
-        out.truncate(number(rt, size) as usize);
+        out.truncate(size.parse().ok()?);
     } else {
-        put(rt, out, named(table, word));
+        out.try_extend_from_slice(bytes(named(table, word))?.as_slice())
+            .ok()?;
     }
+    Some(())
 }
 
 /// The bytes of words, one behind the other: of a name what the line of the table that begins with it has, and of
 /// digits what they are. `-` is no byte. `<SIZE` cuts what there is, and `AT=BYTE` puts a byte in the place of
 /// another.
-pub(crate) fn made(rt: &impl Abort, table: &str, words: &str) -> Buffer {
+pub(crate) fn made(table: &str, words: &str) -> Option<Buffer> {
     let mut out = Buffer::new();
     for word in words.split_ascii_whitespace() {
-        put_word(rt, table, &mut out, word);
+        put_word(table, &mut out, word)?;
     }
-    out
+    Some(out)
 }
 
 /// A record of this register and this type, with these digests and these data.
 pub(crate) fn event<'a>(
-    rt: &impl Abort,
-    register_and_kind: (u32, u32),
+    register: u32,
+    kind: u32,
     digests: &[(u16, &'a [u8])],
     event: &'a [u8],
 ) -> Event<'a> {
     let mut all = ArrayVec::new();
-    holds(rt, all.try_extend_from_slice(digests).is_ok(), "digests");
-    let (register, kind) = register_and_kind;
+    let _ = all.try_extend_from_slice(digests);
     Event {
         register,
         kind,
@@ -124,62 +86,142 @@ pub(crate) fn event<'a>(
     }
 }
 
-/// A word of what a row tells.
+/// The words of a row that are left, and whether all was so until now.
 #[derive(Drop)]
-pub(crate) enum Is<'a> {
-    /// It is this one.
-    Name(&'a str),
-    /// It is this number in decimal digits.
-    Count(u64),
-    /// It is this number in hexadecimal digits.
-    Code(u64),
-    /// It is these bytes.
-    Bytes(&'a [u8]),
+pub(crate) struct Row<'a> {
+    table: &'a str,
+    pub(crate) given: &'a str,
+    pub(crate) told: &'a str,
+    is_so: bool,
 }
 
-/// These bytes, or `none`.
-pub(crate) fn or_none(bytes: Option<&[u8]>) -> Is<'_> {
-    match bytes {
-        Some(bytes) => Is::Bytes(bytes),
-        None => Is::Name("none"),
+impl<'a> Row<'a> {
+    /// These words are given and told.
+    pub(crate) fn new(table: &'a str, given: &'a str, told: &'a str) -> Self {
+        Row {
+            table,
+            given,
+            told,
+            is_so: true,
+        }
     }
-}
 
-/// The next words are these.
-pub(crate) fn tells(rt: &impl Abort, table: &str, told: &mut &str, words: &[Is<'_>]) {
-    for is in words {
-        let next = word(told);
-        let is_told = match is {
-            Is::Name(name) => *name == next,
-            Is::Count(number) => next.parse().ok() == Some(*number),
-            Is::Code(number) => u64::from_str_radix(next, 16).ok() == Some(*number),
-            Is::Bytes(bytes) => made(rt, table, next).as_slice() == *bytes,
+    /// All is so, and no more is told.
+    pub(crate) fn is_told(&self) -> bool {
+        self.is_so && self.told.is_empty()
+    }
+
+    /// It is so.
+    pub(crate) fn holds(&mut self, is_so: bool) {
+        self.is_so = self.is_so && is_so;
+    }
+
+    /// There is such a thing.
+    pub(crate) fn known<T: Default + Drop>(&mut self, found: Option<T>) -> T {
+        match found {
+            Some(found) => found,
+            None => {
+                self.is_so = false;
+                T::default()
+            }
+        }
+    }
+
+    /// The word that is given next.
+    pub(crate) fn word(&mut self) -> &'a str {
+        word(&mut self.given)
+    }
+
+    /// The number of decimal digits that is given next.
+    pub(crate) fn number(&mut self) -> u32 {
+        let found = self.word().parse().ok();
+        self.known(found)
+    }
+
+    /// The number of hexadecimal digits that is given next.
+    pub(crate) fn code(&mut self) -> u32 {
+        let found = number(self.word());
+        self.known(found)
+    }
+
+    /// The hash whose number is given next.
+    pub(crate) fn bank(&mut self) -> Alg {
+        let found = match self.code() {
+            0x0004 => Some(Alg::Sha1),
+            0x000B => Some(Alg::Sha256),
+            0x000C => Some(Alg::Sha384),
+            _ => None,
         };
-        holds(rt, is_told, next);
+        self.known(found)
     }
-}
 
-/// The next word is this one.
-pub(crate) fn names(rt: &impl Abort, told: &mut &str, name: &str) {
-    holds(rt, word(told) == name, name);
-}
+    /// The register whose number is given next.
+    pub(crate) fn register(&mut self) -> PcrIndex {
+        let found = PcrIndex::from_number(self.number());
+        self.known(found)
+    }
 
-/// The next word is what this prints as.
-pub(crate) fn prints(rt: &impl Abort, told: &mut &str, value: impl Debug + Drop) {
-    let mut text = ArrayString::<20>::new();
-    let _ = write!(text, "{value:?}");
-    names(rt, told, text.as_str());
-}
+    /// The bytes of these words.
+    pub(crate) fn of(&mut self, words: &str) -> Buffer {
+        let found = made(self.table, words);
+        self.known(found)
+    }
 
-/// The next words are the kind of a fault and its place.
-pub(crate) fn faults(rt: &impl Abort, told: &mut &str, kind: impl Debug + Drop, at: u64) {
-    prints(rt, told, kind);
-    tells(rt, "", told, &[Is::Count(at)]);
-}
+    /// The bytes of the word that is given next.
+    pub(crate) fn bytes(&mut self) -> Buffer {
+        let word = self.word();
+        self.of(word)
+    }
 
-/// The next words are the numbers of these banks, in hexadecimal digits.
-pub(crate) fn are_banks(rt: &impl Abort, told: &mut &str, banks: &[Alg]) {
-    for bank in banks {
-        tells(rt, "", told, &[Is::Code(bank.number() as u64)]);
+    /// The bytes of all words that are given.
+    pub(crate) fn rest(&mut self) -> Buffer {
+        self.of(self.given)
+    }
+
+    /// The next word is this one.
+    pub(crate) fn is(&mut self, name: &str) {
+        let next = word(&mut self.told);
+        self.holds(next == name);
+    }
+
+    /// The next word is what this prints as.
+    pub(crate) fn prints(&mut self, value: impl Debug + Drop) {
+        let mut text = ArrayString::<20>::new();
+        let _ = write!(text, "{value:?}");
+        self.is(text.as_str());
+    }
+
+    /// The next words are the kind of a fault and its place.
+    pub(crate) fn is_fault(&mut self, kind: impl Debug + Drop, at: impl Debug + Drop) {
+        self.prints(kind);
+        self.prints(at);
+    }
+
+    /// The next word is this number in hexadecimal digits.
+    pub(crate) fn is_code(&mut self, code: u64) {
+        let next = u64::from_str_radix(word(&mut self.told), 16);
+        self.holds(next.ok() == Some(code));
+    }
+
+    /// The next word stands for these bytes.
+    pub(crate) fn has(&mut self, bytes: &[u8]) {
+        let word = word(&mut self.told);
+        let next = self.of(word);
+        self.holds(next.as_slice() == bytes);
+    }
+
+    /// The same, or it is `none`.
+    pub(crate) fn may_have(&mut self, bytes: Option<&[u8]>) {
+        match bytes {
+            Some(bytes) => self.has(bytes),
+            None => self.is("none"),
+        }
+    }
+
+    /// The next words are the numbers of these banks, in hexadecimal digits.
+    pub(crate) fn are_banks(&mut self, banks: &[Alg]) {
+        for bank in banks {
+            self.is_code(bank.number() as u64);
+        }
     }
 }

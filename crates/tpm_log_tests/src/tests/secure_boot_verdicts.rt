@@ -1,13 +1,12 @@
 //! What the records of register 7 tell of Secure Boot. The digests are those of Python's hashlib, and the verdicts
 //! those of a model in Python.
 
-use crate::tests::rows::{Asked, Is, faults, holds, made, prints, rows, tells};
-use std::process::Abort;
+use crate::tests::rows::{Asked, Row, rows};
 use std::test::*;
 use tpm_event_data::Event;
 use tpm_log::Log;
 use tpm_secure_boot::laws::secure_boot_of_the_register;
-use tpm_secure_boot::{SecurityVariable, secure_boot};
+use tpm_secure_boot::{SecureBoot, SecurityVariable, secure_boot};
 use tpm_types::Alg;
 
 // A header and records.
@@ -86,19 +85,21 @@ const RECORDS: &str = "
 struct Verdicts;
 
 impl Asked for Verdicts {
-    fn ask<R: Abort>(rt: &R, given: &str, told: &mut &str) {
-        is_judged(rt, told, made(rt, RECORDS, given).as_slice());
+    fn ask(row: &mut Row<'_>) {
+        match Log::parse(row.rest().as_slice()) {
+            Ok(log) => is_judged(row, &log),
+            Err(_) => row.holds(false),
+        }
     }
 }
 
-fn is_judged(rt: &impl Abort, told: &mut &str, bytes: &[u8]) {
-    let log = Log::parse(bytes).ok().expect(rt, told);
-    match secure_boot(&log, Alg::Sha256) {
+fn is_judged(row: &mut Row<'_>, log: &Log<'_>) {
+    match secure_boot(log, Alg::Sha256) {
         Ok(verdict) => {
-            prints(rt, told, verdict.state);
-            prints(rt, told, verdict.dma_protection_disabled);
+            row.prints(verdict.state);
+            row.prints(verdict.dma_protection_disabled);
         }
-        Err(fault) => faults(rt, told, fault.kind, fault.at as u64),
+        Err(fault) => row.is_fault(fault.kind, fault.at),
     }
 }
 
@@ -106,6 +107,7 @@ fn is_judged(rt: &impl Abort, told: &mut &str, bytes: &[u8]) {
 fn a_verdict_or_the_first_fault_is_told(rt: HostRuntime) {
     rows::<Verdicts>(
         &rt,
+        RECORDS,
         "
         HEADER SECURE_BOOT_ON PK KEK DB DBX SEPARATOR AUTHORITY AUTHORITY_CUT is On false
         HEADER ELSEWHERE NO_ACTION SECURE_BOOT_ON PK KEK DB DBX DBT DMA SEPARATOR ELSEWHERE AUTHORITY is On true
@@ -151,64 +153,70 @@ fn a_verdict_or_the_first_fault_is_told(rt: HostRuntime) {
 struct Keys;
 
 impl Asked for Keys {
-    fn ask<R: Abort>(rt: &R, given: &str, told: &mut &str) {
-        let bytes = made(rt, RECORDS, given);
-        are_keys(rt, told, bytes.as_slice());
-        are_measured(rt, told, bytes.as_slice());
-    }
-}
-
-fn are_keys(rt: &impl Abort, told: &mut &str, bytes: &[u8]) {
-    let log = Log::parse(bytes).ok().expect(rt, told);
-    let verdict = secure_boot(&log, Alg::Sha256).ok().expect(rt, told);
-    for key in [verdict.pk, verdict.kek, verdict.db, verdict.dbx] {
-        is_key(rt, told, key);
-    }
-    holds(rt, secure_boot(&log, Alg::Sha1).is_err(), "of SHA-1");
-}
-
-fn is_key(rt: &impl Abort, told: &mut &str, variable: Option<SecurityVariable<'_>>) {
-    let variable = variable.expect(rt, told);
-    let at = Is::Count(variable.at as u64);
-    tells(rt, "", told, &[at, Is::Bytes(variable.value)]);
-}
-
-fn are_measured(rt: &impl Abort, told: &mut &str, bytes: &[u8]) {
-    for event in Log::parse(bytes).ok().expect(rt, told).events() {
-        if event.register == 7 && event.kind == 0x8000_00E0 {
-            is_measured(rt, told, &event);
+    fn ask(row: &mut Row<'_>) {
+        match Log::parse(row.rest().as_slice()) {
+            Ok(log) => are_told(row, &log),
+            Err(_) => row.holds(false),
         }
     }
 }
 
-fn is_measured(rt: &impl Abort, told: &mut &str, event: &Event<'_>) {
-    let text = event.measured(Alg::Sha256).expect(rt, told);
-    tells(rt, "", told, &[Is::Count(text.len() as u64)]);
-    holds(rt, event.measured(Alg::Sha1).is_none(), told);
+fn are_told(row: &mut Row<'_>, log: &Log<'_>) {
+    match secure_boot(log, Alg::Sha256) {
+        Ok(verdict) => are_keys(row, &verdict),
+        Err(_) => row.holds(false),
+    }
+    row.holds(secure_boot(log, Alg::Sha1).is_err());
+    for event in log.events() {
+        if event.register == 7 && event.kind == 0x8000_00E0 {
+            is_measured(row, &event);
+        }
+    }
+    has_authorities(row, log, &mut [1; 3]);
+    has_authorities(row, log, &mut [1]);
+    has_authorities(row, log, &mut []);
+}
+
+fn are_keys(row: &mut Row<'_>, verdict: &SecureBoot<'_>) {
+    is_key(row, verdict.pk);
+    is_key(row, verdict.kek);
+    is_key(row, verdict.db);
+    is_key(row, verdict.dbx);
+}
+
+fn is_key(row: &mut Row<'_>, variable: Option<SecurityVariable<'_>>) {
+    let Some(variable) = variable else {
+        return row.holds(false);
+    };
+    row.prints(variable.at);
+    row.has(variable.value);
+}
+
+fn is_measured(row: &mut Row<'_>, event: &Event<'_>) {
+    row.holds(event.measured(Alg::Sha1).is_none());
+    match event.measured(Alg::Sha256) {
+        Some(text) => row.prints(text.len()),
+        None => row.holds(false),
+    }
+}
+
+// How many authorities there are, and the places that there is room for.
+fn has_authorities(row: &mut Row<'_>, log: &Log<'_>, places: &mut [u32]) {
+    row.prints(log.authorities(places));
+    for place in places {
+        row.prints(*place);
+    }
 }
 
 #[test]
 fn the_keys_are_told_where_they_lie(rt: HostRuntime) {
     rows::<Keys>(
         &rt,
+        RECORDS,
         "
-        HEADER SECURE_BOOT_ON PK KEK DB DBX SEPARATOR AUTHORITY AUTHORITY_CUT is 168 a1a2 256 b1 345 c1c2c3 434 d1 38 41
+        HEADER SECURE_BOOT_ON PK KEK DB DBX SEPARATOR AUTHORITY AUTHORITY_CUT is 168 a1a2 256 b1 345 c1c2c3 434 d1 38 41 2 577 665 1 2 577 2
+        HEADER SECURE_BOOT_ON PK KEK DB DBX SEPARATOR ELSEWHERE AUTHORITY AUTHORITY_CUT is 168 a1a2 256 b1 345 c1c2c3 434 d1 38 41 2 631 719 1 2 631 2
         ",
     );
     secure_boot_of_the_register();
-}
-
-fn has_authorities(rt: &impl Abort, log: &Log<'_>, places: &mut [u32], wanted: &[u32]) {
-    holds(rt, log.authorities(places) == 2, "both");
-    holds(rt, &*places == wanted, "their places");
-}
-
-#[test]
-fn the_places_of_authorities_are_told(rt: HostRuntime) {
-    let records = "HEADER SECURE_BOOT_ON PK KEK DB DBX SEPARATOR ELSEWHERE AUTHORITY AUTHORITY_CUT";
-    let bytes = made(&rt, RECORDS, records);
-    let log = Log::parse(bytes.as_slice()).ok().expect(&rt, "a log");
-    has_authorities(&rt, &log, &mut [1; 3], &[631, 719, 1]);
-    has_authorities(&rt, &log, &mut [1], &[631]);
-    has_authorities(&rt, &log, &mut [], &[]);
 }

@@ -2,15 +2,12 @@
 
 use crate::tests::log_parsed::LOGS;
 use crate::tests::quote_attests::lacks;
-use crate::tests::rows::{
-    Asked, Is, are_banks, code, event, hash, holds, made, names, number, prints, rows, tells,
-};
-use std::process::Abort;
+use crate::tests::rows::{Asked, Row, event, made, rows};
 use std::test::*;
 use tpm_event_data::Event;
 use tpm_log::Log;
 use tpm_testing::word;
-use tpm_types::{Alg, HashedDigest, PcrIndex, Selections};
+use tpm_types::{Alg, HashedDigest, PcrIndex, Selections, register};
 use tpm_vouched::laws::{allowed_by_the_log, allowed_by_the_quote, vouched_of_the_log};
 use tpm_vouched::{AllowList, AllowedDigest, VouchedPart, vouched};
 use tpm_wire::{Cursor, Wire};
@@ -26,11 +23,11 @@ const BYTES: &str = "
     SEPARATOR df3f619804a92fdb4057192dc43dd748ea778adc52bc498ce80524c014b81119
 ";
 
-// The selections that these bytes spell.
-fn selections(rt: &impl Abort, text: &str) -> Selections {
-    let bytes = made(rt, "", text);
+// The selections that the bytes left spell.
+fn selections(row: &mut Row<'_>) -> Selections {
+    let bytes = row.rest();
     let read = Selections::take(&mut Cursor::new(bytes.as_slice()));
-    read.ok().expect(rt, text)
+    row.known(read.ok())
 }
 
 // The register and the type of a record, with the command and digests of SHA-384, SHA-1 and SHA-256; and what is
@@ -39,42 +36,39 @@ fn selections(rt: &impl Abort, text: &str) -> Selections {
 struct Records;
 
 impl Asked for Records {
-    fn ask<R: Abort>(rt: &R, mut given: &str, told: &mut &str) {
-        let (command, sha1) = (made(rt, BYTES, "COMMAND"), made(rt, BYTES, "SHA1"));
-        let (sha256, sha384) = (made(rt, BYTES, "SHA256"), made(rt, BYTES, "SHA384"));
-        let named = (number(rt, word(&mut given)), code(rt, word(&mut given)));
+    fn ask(row: &mut Row<'_>) {
+        let command = row.of("COMMAND");
+        let sha384 = row.of("SHA384");
+        let sha1 = row.of("SHA1");
+        let sha256 = row.of("SHA256");
         let digests = [
             (0x000C, sha384.as_slice()),
             (0x0004, sha1.as_slice()),
             (0x000B, sha256.as_slice()),
         ];
-        is_known(
-            rt,
-            given,
-            told,
-            &event(rt, named, &digests, command.as_slice()),
-        );
+        let register = row.number();
+        let kind = row.code();
+        is_known(row, &event(register, kind, &digests, command.as_slice()));
     }
 }
 
-fn is_known(rt: &impl Abort, given: &str, told: &mut &str, event: &Event<'_>) {
-    if word(told) == "vouched" {
-        let quoted = selections(rt, given);
-        are_vouched(rt, told, vouched(quoted.as_slice(), event).as_slice());
-    } else {
-        let mut digests = digests(rt);
-        are_banks(
-            rt,
-            told,
-            AllowList::new(&mut digests).unknown(event).as_slice(),
-        );
+fn is_known(row: &mut Row<'_>, event: &Event<'_>) {
+    match word(&mut row.told) {
+        "vouched" => {
+            let quoted = selections(row);
+            are_vouched(row, vouched(quoted.as_slice(), event).as_slice());
+        }
+        _ => {
+            let mut digests = digests(row);
+            row.are_banks(AllowList::new(&mut digests).unknown(event).as_slice());
+        }
     }
 }
 
-fn are_vouched(rt: &impl Abort, told: &mut &str, parts: &[VouchedPart]) {
+fn are_vouched(row: &mut Row<'_>, parts: &[VouchedPart]) {
     for part in parts {
-        tells(rt, "", told, &[Is::Code(part.bank.number() as u64)]);
-        prints(rt, told, part.part);
+        row.is_code(part.bank.number() as u64);
+        row.prints(part.part);
     }
 }
 
@@ -82,6 +76,7 @@ fn are_vouched(rt: &impl Abort, told: &mut &str, parts: &[VouchedPart]) {
 fn each_bank_vouches_for_what_it_has_the_digest_of(rt: HostRuntime) {
     rows::<Records>(
         &rt,
+        BYTES,
         "
         8 d 00000003 0004 03000100 000b 03000100 000c 03000100 is vouched 4 Text b Data c Other
         8 d 00000002 000c 03000100 000b 03000300 is vouched b Data c Other
@@ -96,27 +91,23 @@ fn each_bank_vouches_for_what_it_has_the_digest_of(rt: HostRuntime) {
     vouched_of_the_log();
 }
 
-fn index(rt: &impl Abort, register: u32) -> PcrIndex {
-    PcrIndex::from_number(register).expect(rt, "a register")
-}
-
-fn allowed(rt: &impl Abort, bank: Alg, register: u32, digest: &str) -> AllowedDigest {
-    let bytes = made(rt, BYTES, digest);
+fn allowed(row: &mut Row<'_>, bank: Alg, register: PcrIndex, digest: &str) -> AllowedDigest {
+    let bytes = row.of(digest);
     AllowedDigest {
-        register: index(rt, register),
-        digest: HashedDigest::new(bank, bytes.as_slice()).expect(rt, digest),
+        register,
+        digest: row.known(HashedDigest::new(bank, bytes.as_slice())),
     }
 }
 
 // The digests that are allowed.
-fn digests(rt: &impl Abort) -> [AllowedDigest; 6] {
+fn digests(row: &mut Row<'_>) -> [AllowedDigest; 6] {
     [
-        allowed(rt, Alg::Sha256, 9, "ZEROS"),
-        allowed(rt, Alg::Sha256, 8, "ZEROS"),
-        allowed(rt, Alg::Sha256, 8, "SHA256"),
-        allowed(rt, Alg::Sha1, 8, "SHA1"),
-        allowed(rt, Alg::Sha256, 8, "ZEROS"),
-        allowed(rt, Alg::Sha1, 4, "SHA1"),
+        allowed(row, Alg::Sha256, register(9), "ZEROS"),
+        allowed(row, Alg::Sha256, register(8), "ZEROS"),
+        allowed(row, Alg::Sha256, register(8), "SHA256"),
+        allowed(row, Alg::Sha1, register(8), "SHA1"),
+        allowed(row, Alg::Sha256, register(8), "ZEROS"),
+        allowed(row, Alg::Sha1, register(4), "SHA1"),
     ]
 }
 
@@ -124,11 +115,12 @@ fn digests(rt: &impl Abort) -> [AllowedDigest; 6] {
 struct Lacks;
 
 impl Asked for Lacks {
-    fn ask<R: Abort>(rt: &R, given: &str, told: &mut &str) {
-        let mut digests = digests(rt);
-        match AllowList::new(&mut digests).first_not_selected(&selections(rt, given)) {
-            Some(found) => lacks(rt, told, found),
-            None => names(rt, told, "none"),
+    fn ask(row: &mut Row<'_>) {
+        let mut digests = digests(row);
+        let quoted = selections(row);
+        match AllowList::new(&mut digests).first_not_selected(&quoted) {
+            Some(found) => lacks(row, found),
+            None => row.is("none"),
         }
     }
 }
@@ -137,6 +129,7 @@ impl Asked for Lacks {
 fn a_list_allows_digests_of_its_registers_alone(rt: HostRuntime) {
     rows::<Records>(
         &rt,
+        BYTES,
         "
         8 d is unknown
         9 d is unknown b
@@ -147,6 +140,7 @@ fn a_list_allows_digests_of_its_registers_alone(rt: HostRuntime) {
     );
     rows::<Lacks>(
         &rt,
+        BYTES,
         "
         00000001 0004 03000100 is 4 4
         00000002 000b 03000100 0004 03100100 is b 9
@@ -161,12 +155,14 @@ fn a_list_allows_digests_of_its_registers_alone(rt: HostRuntime) {
 struct OfLog;
 
 impl Asked for OfLog {
-    fn ask<R: Abort>(rt: &R, mut given: &str, told: &mut &str) {
-        let bytes = made(rt, LOGS, "WORKED");
-        let register = number(rt, word(&mut given));
-        let mut digests = [allowed(rt, Alg::Sha256, register, given)];
-        let log = Log::parse(bytes.as_slice()).ok().expect(rt, "a log");
-        prints(rt, told, AllowList::new(&mut digests).allows_log(&log));
+    fn ask(row: &mut Row<'_>) {
+        let register = row.register();
+        let mut digests = [allowed(row, Alg::Sha256, register, row.given)];
+        let bytes = row.known(made(LOGS, "WORKED"));
+        match Log::parse(bytes.as_slice()) {
+            Ok(log) => row.prints(AllowList::new(&mut digests).allows_log(&log)),
+            Err(_) => row.holds(false),
+        }
     }
 }
 
@@ -174,6 +170,7 @@ impl Asked for OfLog {
 fn a_list_allows_a_log_whose_digests_are_on_it(rt: HostRuntime) {
     rows::<OfLog>(
         &rt,
+        BYTES,
         "
         7 SEPARATOR is true
         7 ZEROS is false
@@ -182,53 +179,38 @@ fn a_list_allows_a_log_whose_digests_are_on_it(rt: HostRuntime) {
     );
 }
 
-#[test]
-fn a_list_is_in_order(rt: HostRuntime) {
-    let mut digests = digests(&rt);
-    let list = AllowList::new(&mut digests);
-    let mut told = "4 4 4 8 b 8 b 8 b 8 b 9";
-    are_listed(&rt, &mut told, &list);
-    holds(&rt, told.is_empty(), told);
-}
-
-fn are_listed(rt: &impl Abort, told: &mut &str, list: &AllowList<'_>) {
-    for found in list.digests() {
-        let bank = Is::Code(found.digest.hash().number() as u64);
-        tells(
-            rt,
-            "",
-            told,
-            &[bank, Is::Count(found.register.number() as u64)],
-        );
-    }
-}
-
-// A hash and a register, and a digest; whether the list names the first two, and whether it allows them all.
+// A hash and a register, and a digest; whether the list names the first two, and whether it allows them all. Then its
+// digests are told in their order, each by its bank and register.
 struct Named;
 
 impl Asked for Named {
-    fn ask<R: Abort>(rt: &R, mut given: &str, told: &mut &str) {
-        let hash = hash(rt, word(&mut given));
-        let register = index(rt, number(rt, word(&mut given)));
-        let digest = made(rt, BYTES, given);
-        let mut digests = digests(rt);
+    fn ask(row: &mut Row<'_>) {
+        let bank = row.bank();
+        let register = row.register();
+        let digest = row.rest();
+        let mut digests = digests(row);
         let list = AllowList::new(&mut digests);
-        prints(rt, told, list.names(hash, register));
-        prints(rt, told, list.allows(hash, register, digest.as_slice()));
+        row.prints(list.names(bank, register));
+        row.prints(list.allows(bank, register, digest.as_slice()));
+        for found in list.digests() {
+            row.is_code(found.digest.hash().number() as u64);
+            row.prints(found.register.number());
+        }
     }
 }
 
 #[test]
-fn a_list_names_registers_and_digests(rt: HostRuntime) {
+fn a_list_names_registers_and_digests_and_is_in_order(rt: HostRuntime) {
     rows::<Named>(
         &rt,
+        BYTES,
         "
-        000b 9 ZEROS is true true
-        0004 9 SHA1 is false false
-        000b 8 SHA256 is true true
+        000b 9 ZEROS is true true 4 4 4 8 b 8 b 8 b 8 b 9
+        0004 9 SHA1 is false false 4 4 4 8 b 8 b 8 b 8 b 9
+        000b 8 SHA256 is true true 4 4 4 8 b 8 b 8 b 8 b 9
         # a digest of another register, and of another bank
-        000b 9 SHA256 is true false
-        000c 8 ZEROS is false false
+        000b 9 SHA256 is true false 4 4 4 8 b 8 b 8 b 8 b 9
+        000c 8 ZEROS is false false 4 4 4 8 b 8 b 8 b 8 b 9
         ",
     );
 }
