@@ -1,7 +1,6 @@
 //! Captures, scripts, logs and lists, by readers and writers that fail or give little.
 
 mod check_logs;
-mod device_buffers;
 mod device_nonces;
 mod events_records;
 mod output_calls;

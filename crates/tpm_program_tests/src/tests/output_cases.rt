@@ -1,8 +1,6 @@
-//! What is asked of each call.
+//! A call of a subcommand, with what it reads, writes and answers.
 
-use crate::tests::output_calls::CALLS;
 use crate::tests::output_runs::{LOG, held};
-use std::alloc::Global;
 use std::process::Abort;
 use std::test::*;
 use tpm_output::fault::ToolFault;
@@ -23,39 +21,26 @@ pub(crate) struct Case<'a> {
     pub(crate) reads: usize,
 }
 
-/// What is asked of a case.
-pub(crate) trait Asked {
-    fn ask<R: AllocGlobal + Abort>(rt: &R, case: &Case<'_>);
-}
-
-/// Asks each case.
-pub(crate) fn cases<T: Asked>(rt: &(impl AllocGlobal + Abort)) {
-    let mut case = Case::new("");
-    for line in CALLS.lines() {
-        if line.is_empty() && !case.call.is_empty() {
-            T::ask(rt, &case);
-            case = Case::new("");
-        } else {
-            assert!(rt; case.takes(line), "{line}");
-        }
-    }
-}
-
 fn put(out: &mut Buffer, bytes: &[u8]) -> bool {
     out.try_extend_from_slice(bytes).is_ok()
 }
 
 impl<'a> Case<'a> {
-    fn new(call: &'a str) -> Self {
-        Case {
-            call,
+    /// What these lines say.
+    pub(crate) fn of(rt: &impl Abort, lines: &'a str) -> Self {
+        let mut case = Case {
+            call: "",
             before: "",
             lines: Buffer::new(),
             text: Buffer::new(),
             answer: "Done",
             told: "",
             reads: 0,
+        };
+        for line in lines.lines() {
+            assert!(rt; case.takes(line), "{line}");
         }
+        case
     }
 
     fn takes(&mut self, line: &'a str) -> bool {
@@ -79,7 +64,7 @@ impl<'a> Case<'a> {
             "=" => self.answer = rest,
             "@" => self.told = rest,
             "~" => self.reads = rest.parse().unwrap_or(0),
-            "#" => {}
+            "#" | "" => {}
             _ => self.call = line,
         }
         true
@@ -108,11 +93,11 @@ impl<'a> Case<'a> {
             }
     }
 
-    /// How many lines are written before the read with this number.
-    pub(crate) fn lines_before(&self, number: usize) -> usize {
+    /// How many lines are written behind so many bytes that are read.
+    pub(crate) fn lines_told(&self, done: usize) -> usize {
         let mut lines = 0usize;
         for place in self.told.split_ascii_whitespace() {
-            if place.parse().unwrap_or(usize::MAX) < number {
+            if place.parse().unwrap_or(usize::MAX) <= done {
                 lines = lines.saturating_add(1);
             }
         }

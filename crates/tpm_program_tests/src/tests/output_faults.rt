@@ -1,6 +1,7 @@
 //! Calls that read in pieces, reads and writes that fail, and want of memory.
 
-use crate::tests::output_cases::{Asked, Case, cases};
+use crate::tests::output_calls::CALLS;
+use crate::tests::output_cases::Case;
 use crate::tests::output_runs::run;
 use std::alloc::Global;
 use std::io;
@@ -22,74 +23,58 @@ fn answered(alloc: Global, case: &Case<'_>, input: &mut Pieces<'_>) -> Answered 
 // How many bytes a read gives at most.
 const PIECES: [usize; 10] = [1, 4096, 2, 3, 5, 7, 25, 48, 64, 215];
 
-// The call is answered alike, in whatever pieces it is read.
-struct Alike;
+// It holds of this call.
+fn holds(rt: &impl Abort, case: &Case<'_>, is_so: bool) {
+    assert!(rt; is_so, "{}", case.call);
+}
 
-impl Asked for Alike {
-    fn ask<R: AllocGlobal + Abort>(rt: &R, case: &Case<'_>) {
-        let count = if case.is_long() { 2 } else { PIECES.len() };
-        for most in &PIECES[..count] {
-            let (answer, out) = answered(rt.alloc(), case, &mut case.input(*most));
-            assert!(rt; case.is_answer(&answer), "{} by {most}", case.call);
-            assert!(rt;
-                out.as_slice() == case.text.as_slice(),
-                "{} by {most}",
-                case.call
-            );
-        }
+// The call is answered alike, in whatever pieces it is read.
+fn is_alike(rt: &(impl AllocGlobal + Abort), case: &Case<'_>) {
+    let count = if case.is_long() { 2 } else { PIECES.len() };
+    for most in &PIECES[..count] {
+        let (answer, out) = answered(rt.alloc(), case, &mut case.input(*most));
+        holds(rt, case, case.is_answer(&answer));
+        holds(rt, case, out.as_slice() == case.text.as_slice());
     }
 }
 
 #[test]
 fn a_call_is_answered_alike_in_any_pieces(rt: HostRuntime) {
-    cases::<Alike>(&rt);
+    for lines in CALLS.split('%') {
+        is_alike(&rt, &Case::of(&rt, lines));
+    }
 }
 
 // Whichever read fails, that is answered and not tried again, and what was written is the text up to its last line that
 // is told by then.
-struct Reads;
-
-impl Asked for Reads {
-    fn ask<R: AllocGlobal + Abort>(rt: &R, case: &Case<'_>) {
-        if case.reads > 0 {
-            let mut input = case.input(1);
-            let _ = answered(rt.alloc(), case, &mut input);
-            assert_eq!(rt; input.reads, case.reads, "{}", case.call);
-            let reads = if case.is_long() { 0 } else { case.reads };
-            for number in 0..reads {
-                read_fails(rt, case, number + 1);
-            }
+fn reads_fail(rt: &(impl AllocGlobal + Abort), case: &Case<'_>) {
+    if case.reads == 0 {
+        return;
+    }
+    let mut input = case.input(1);
+    let _ = answered(rt.alloc(), case, &mut input);
+    holds(rt, case, input.reads == case.reads);
+    if !case.is_long() {
+        for done in 0..case.reads {
+            read_fails(rt, case, done);
         }
     }
 }
 
-fn read_fails(rt: &(impl AllocGlobal + Abort), case: &Case<'_>, number: usize) {
+fn read_fails(rt: &(impl AllocGlobal + Abort), case: &Case<'_>, done: usize) {
     let mut input = case.input(1);
-    input.fails_at = number;
+    input.fails_at = done.saturating_add(1);
     let (answer, out) = answered(rt.alloc(), case, &mut input);
-    assert!(rt; answer == Err(ToolFault::Read), "{}", case.call);
-    assert_eq!(rt;
-        (input.reads, input.failures()),
-        (number, 1),
-        "{}",
-        case.call
+    let out = out.as_slice();
+    holds(rt, case, answer == Err(ToolFault::Read));
+    holds(
+        rt,
+        case,
+        input.reads == input.fails_at && input.failures() == 1,
     );
-    assert!(rt;
-        case.text.as_slice().starts_with(out.as_slice()),
-        "{}",
-        case.call
-    );
-    assert!(rt;
-        out.is_empty() || out.as_slice().ends_with(b"\n"),
-        "{}",
-        case.call
-    );
-    assert_eq!(rt;
-        lines_in(out.as_slice()),
-        case.lines_before(number),
-        "{}",
-        case.call
-    );
+    holds(rt, case, case.text.as_slice().starts_with(out));
+    holds(rt, case, out.is_empty() || out.ends_with(b"\n"));
+    holds(rt, case, lines_in(out) == case.lines_told(done));
 }
 
 fn lines_in(text: &[u8]) -> usize {
@@ -104,7 +89,9 @@ fn lines_in(text: &[u8]) -> usize {
 
 #[test]
 fn each_read_that_fails_is_answered(rt: HostRuntime) {
-    cases::<Reads>(&rt);
+    for lines in CALLS.split('%') {
+        reads_fail(&rt, &Case::of(&rt, lines));
+    }
 }
 
 // A writer that takes a byte at a time, as long as it is the next of a text, and so many of them. It asks for no
@@ -134,45 +121,37 @@ impl Write for Expecting<'_> {
 }
 
 // Each write that fails is answered.
-struct Writes;
-
-impl Asked for Writes {
-    fn ask<R: AllocGlobal + Abort>(rt: &R, case: &Case<'_>) {
-        let rest = case.text.as_slice();
-        let count = if case.is_long() { 0 } else { rest.len() };
-        for writes in 0..count {
-            let mut out = Expecting { rest, writes };
-            let answer = run(rt.alloc(), case.call, &mut case.input(4096), &mut out);
-            assert!(rt; matches!(answer, Err(ToolFault::Write(_))), "{}", case.call);
-        }
+fn writes_fail(rt: &(impl AllocGlobal + Abort), case: &Case<'_>) {
+    let rest = case.text.as_slice();
+    let count = if case.is_long() { 0 } else { rest.len() };
+    for writes in 0..count {
+        let mut out = Expecting { rest, writes };
+        let answer = run(rt.alloc(), case.call, &mut case.input(4096), &mut out);
+        holds(rt, case, matches!(answer, Err(ToolFault::Write(_))));
     }
 }
 
 #[test]
 fn each_write_that_fails_is_answered(rt: HostRuntime) {
-    cases::<Writes>(&rt);
+    for lines in CALLS.split('%') {
+        writes_fail(&rt, &Case::of(&rt, lines));
+    }
 }
 
 // Run with a request for memory that is refused, this shows that such a one is answered, and never another text.
-struct Whole;
-
-impl Asked for Whole {
-    fn ask<R: AllocGlobal + Abort>(rt: &R, case: &Case<'_>) {
-        let mut out = Expecting {
-            rest: case.text.as_slice(),
-            writes: case.text.len(),
-        };
-        let answer = run(rt.alloc(), case.call, &mut case.input(4096), &mut out);
-        let is_whole = case.is_answer(&answer) && out.rest.is_empty();
-        assert!(rt;
-            is_whole || answer == Err(ToolFault::Memory),
-            "{}",
-            case.call
-        );
-    }
+fn is_whole(rt: &(impl AllocGlobal + Abort), case: &Case<'_>) {
+    let mut out = Expecting {
+        rest: case.text.as_slice(),
+        writes: case.text.len(),
+    };
+    let answer = run(rt.alloc(), case.call, &mut case.input(4096), &mut out);
+    let is_printed = case.is_answer(&answer) && out.rest.is_empty();
+    holds(rt, case, is_printed || answer == Err(ToolFault::Memory));
 }
 
 #[test]
 fn all_is_printed_or_memory_is_wanting(rt: HostRuntime) {
-    cases::<Whole>(&rt);
+    for lines in CALLS.split('%') {
+        is_whole(&rt, &Case::of(&rt, lines));
+    }
 }
