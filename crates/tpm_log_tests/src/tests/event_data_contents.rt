@@ -79,8 +79,18 @@ impl Asked for Kinds {
     }
 }
 
+struct Paths;
+
+impl Asked for Paths {
+    fn ask(row: &mut Row<'_>) {
+        for path in packed_paths(row.rest().as_slice()) {
+            row.has(path);
+        }
+    }
+}
+
 #[test]
-fn a_type_has_a_kind(rt: HostRuntime) {
+fn what_data_say_is_told_by_the_kind_of_a_type(rt: HostRuntime) {
     rows::<Kinds>(
         &rt,
         BYTES,
@@ -91,10 +101,6 @@ fn a_type_has_a_kind(rt: HostRuntime) {
         13 is Open
         ",
     );
-}
-
-#[test]
-fn what_data_say_is_told(rt: HostRuntime) {
     rows::<Data>(
         &rt,
         BYTES,
@@ -137,20 +143,6 @@ fn what_data_say_is_told(rt: HostRuntime) {
         80000003 IMAGE is image FIRST_PATH 0000000000000000
         ",
     );
-}
-
-struct Paths;
-
-impl Asked for Paths {
-    fn ask(row: &mut Row<'_>) {
-        for path in packed_paths(row.rest().as_slice()) {
-            row.has(path);
-        }
-    }
-}
-
-#[test]
-fn packed_paths_are_lent(rt: HostRuntime) {
     rows::<Paths>(
         &rt,
         BYTES,

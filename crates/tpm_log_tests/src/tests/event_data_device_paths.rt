@@ -36,28 +36,6 @@ fn is_node(row: &mut Row<'_>, node: Result<DeviceNode<'_>, DevicePathFault>) {
     }
 }
 
-#[test]
-fn each_node_is_lent_and_the_first_fault_told(rt: HostRuntime) {
-    rows::<Paths>(
-        &rt,
-        BYTES,
-        "
-        PATH is 2 1 ACPI 1 1 001d 4 4 FILE 7f ff -
-        # Nothing is told behind a fault.
-        PATH <47 is 2 1 ACPI 1 1 001d 4 4 FILE Truncated 44
-        PATH <44 is 2 1 ACPI 1 1 001d NoEnd 44
-        PATH <43 is 2 1 ACPI 1 1 001d NodeLength 20
-        PATH 2=03 is NodeLength 2
-        PATH 2=31 is NodeLength 2
-        PATH 21=01 is 2 1 ACPI 1 1 001d NodeLength 20
-        PATH 46=05 is 2 1 ACPI 1 1 001d 4 4 FILE NodeLength 46
-        PATH 45=01 is 2 1 ACPI 1 1 001d 4 4 FILE NoEnd 48
-        PATH 00 is 2 1 ACPI 1 1 001d 4 4 FILE Behind 48
-        ",
-    );
-    assert!(rt; device_path(&[]).next().is_none());
-}
-
 // The type and the data.
 struct Images;
 
@@ -86,7 +64,25 @@ fn is_image(row: &mut Row<'_>, read: Result<ImageLoad<'_>, ImageLoadFault>) {
 }
 
 #[test]
-fn an_image_is_lent(rt: HostRuntime) {
+fn images_and_each_node_are_lent_and_the_first_fault_told(rt: HostRuntime) {
+    rows::<Paths>(
+        &rt,
+        BYTES,
+        "
+        PATH is 2 1 ACPI 1 1 001d 4 4 FILE 7f ff -
+        # Nothing is told behind a fault.
+        PATH <47 is 2 1 ACPI 1 1 001d 4 4 FILE Truncated 44
+        PATH <44 is 2 1 ACPI 1 1 001d NoEnd 44
+        PATH <43 is 2 1 ACPI 1 1 001d NodeLength 20
+        PATH 2=03 is NodeLength 2
+        PATH 2=31 is NodeLength 2
+        PATH 21=01 is 2 1 ACPI 1 1 001d NodeLength 20
+        PATH 46=05 is 2 1 ACPI 1 1 001d 4 4 FILE NodeLength 46
+        PATH 45=01 is 2 1 ACPI 1 1 001d 4 4 FILE NoEnd 48
+        PATH 00 is 2 1 ACPI 1 1 001d 4 4 FILE Behind 48
+        ",
+    );
+    assert!(rt; device_path(&[]).next().is_none());
     rows::<Images>(
         &rt,
         BYTES,

@@ -125,8 +125,49 @@ fn is_tag(row: &mut Row<'_>, tag: &TaggedEvent<'_>) {
     row.may_have(tag.text_units());
 }
 
+// The variable's GUID, its name and its value.
+struct Variables;
+
+impl Asked for Variables {
+    fn ask(row: &mut Row<'_>) {
+        let guid = row.bytes();
+        let name = row.bytes();
+        let value = row.rest();
+        let variable = Variable {
+            guid: guid.as_slice(),
+            name: name.as_slice(),
+            value: value.as_slice(),
+        };
+        match variable.load_option() {
+            Some(read) => is_option(row, read),
+            None => row.may_have(variable.boot_order()),
+        }
+    }
+}
+
+fn is_option(row: &mut Row<'_>, read: Result<LoadOption<'_>, EventDataFault>) {
+    match read {
+        Ok(option) => {
+            row.is_code(option.attributes as u64);
+            row.has(option.description);
+            row.has(option.path);
+            row.has(option.value);
+        }
+        Err(fault) => row.is_fault(fault.kind, fault.at),
+    }
+}
+
+struct Options;
+
+impl Asked for Options {
+    fn ask(row: &mut Row<'_>) {
+        let bytes = row.rest();
+        is_option(row, load_option(bytes.as_slice()));
+    }
+}
+
 #[test]
-fn what_events_have_and_their_first_fault_are_told(rt: HostRuntime) {
+fn what_events_and_boot_variables_have_and_their_first_fault_are_told(rt: HostRuntime) {
     rows::<Events>(
         &rt,
         BYTES,
@@ -169,42 +210,6 @@ fn what_events_have_and_their_first_fault_are_told(rt: HostRuntime) {
         6 TAG_IN_UTF_16 is 1 QUIET_AND_ZERO none QUIET
         ",
     );
-}
-
-// The variable's GUID, its name and its value.
-struct Variables;
-
-impl Asked for Variables {
-    fn ask(row: &mut Row<'_>) {
-        let guid = row.bytes();
-        let name = row.bytes();
-        let value = row.rest();
-        let variable = Variable {
-            guid: guid.as_slice(),
-            name: name.as_slice(),
-            value: value.as_slice(),
-        };
-        match variable.load_option() {
-            Some(read) => is_option(row, read),
-            None => row.may_have(variable.boot_order()),
-        }
-    }
-}
-
-fn is_option(row: &mut Row<'_>, read: Result<LoadOption<'_>, EventDataFault>) {
-    match read {
-        Ok(option) => {
-            row.is_code(option.attributes as u64);
-            row.has(option.description);
-            row.has(option.path);
-            row.has(option.value);
-        }
-        Err(fault) => row.is_fault(fault.kind, fault.at),
-    }
-}
-
-#[test]
-fn boot_variables_are_told(rt: HostRuntime) {
     rows::<Variables>(
         &rt,
         BYTES,
@@ -227,19 +232,6 @@ fn boot_variables_are_told(rt: HostRuntime) {
         OTHER BOOT_ORDER 01000000 is none
         ",
     );
-}
-
-struct Options;
-
-impl Asked for Options {
-    fn ask(row: &mut Row<'_>) {
-        let bytes = row.rest();
-        is_option(row, load_option(bytes.as_slice()));
-    }
-}
-
-#[test]
-fn load_options_are_lent(rt: HostRuntime) {
     rows::<Options>(
         &rt,
         BYTES,

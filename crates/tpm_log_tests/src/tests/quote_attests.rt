@@ -177,36 +177,6 @@ fn is_spelled(attest: &Attest<'_>, bytes: &[u8]) -> bool {
 }
 
 #[test]
-fn each_part_of_a_quote_is_decoded_and_put_back(rt: HostRuntime) {
-    rows::<Attests>(
-        &rt,
-        BYTES,
-        "
-        RSA_SHA1 is SIGNER SENT 49c 1 0 safe 2019102300163636 4 ff0000 e215d07ab7586c5886cb9f004151306057d0de8f
-        NOT_MEASURED is OTHER_SIGNER SENT 357 1 0 safe 2019102300163636 b 001c00 OTHER_DIGEST
-        RSA_SHA1 80=00 is SIGNER SENT 49c 1 0 unsafe 2019102300163636 4 ff0000 e215d07ab7586c5886cb9f004151306057d0de8f
-        # Bytes that are no quote have a fault: a byte behind it
-        RSA_SHA1 00 is refused 95 121
-        # another magic, and the type of a certification
-        RSA_SHA1 3=46 is refused 84 0
-        RSA_SHA1 0=fe is refused 84 0
-        RSA_SHA1 5=17 is refused 84 4
-        RSA_SHA1 5=14 is refused 84 4
-        # a Name and a nonce of 67 bytes
-        RSA_SHA1 7=43 is refused 95 6
-        RSA_SHA1 43=43 is refused 95 42
-        # neither safe nor unsafe
-        RSA_SHA1 80=02 is refused 84 80
-        RSA_SHA1 80=ff is refused 84 80
-        # the information of a quote, which is judged as it is alone
-        RSA_SHA1 92=04 is refused 95 89
-        RSA_SHA1 95=04 is refused 84 95
-        ",
-    );
-    attest_or_fault();
-}
-
-#[test]
 fn a_quote_is_spelled_from_its_parts(rt: HostRuntime) {
     let signer = made(BYTES, "OTHER_SIGNER").expect(&rt, "bytes");
     let nonce = made(BYTES, "SENT").expect(&rt, "bytes");
@@ -316,8 +286,58 @@ pub(crate) fn lacks(row: &mut Row<'_>, missing: NotSelected) {
     row.prints(missing.register.number());
 }
 
+// A quote of these bytes, and the registers of a bank.
+struct Selects;
+
+impl Asked for Selects {
+    fn ask(row: &mut Row<'_>) {
+        let required = required(row);
+        match decode_attest(row.rest().as_slice()) {
+            Ok(attest) => are_selected(row, &attest.quote.selections, &required),
+            Err(_) => row.holds(false),
+        }
+    }
+}
+
+fn are_selected(row: &mut Row<'_>, quoted: &Selections, required: &Selections) {
+    row.prints(selects_none(quoted));
+    row.prints(selects_none(required));
+    match first_not_selected(quoted, required) {
+        Some(missing) => lacks(row, missing),
+        None => row.is("none"),
+    }
+}
+
 #[test]
-fn a_quote_of_the_registers_after_its_log_is_the_one_that_was_asked_for(rt: HostRuntime) {
+fn each_part_of_a_quote_is_decoded_and_put_back_and_it_is_the_one_that_was_asked_for(
+    rt: HostRuntime,
+) {
+    rows::<Attests>(
+        &rt,
+        BYTES,
+        "
+        RSA_SHA1 is SIGNER SENT 49c 1 0 safe 2019102300163636 4 ff0000 e215d07ab7586c5886cb9f004151306057d0de8f
+        NOT_MEASURED is OTHER_SIGNER SENT 357 1 0 safe 2019102300163636 b 001c00 OTHER_DIGEST
+        RSA_SHA1 80=00 is SIGNER SENT 49c 1 0 unsafe 2019102300163636 4 ff0000 e215d07ab7586c5886cb9f004151306057d0de8f
+        # Bytes that are no quote have a fault: a byte behind it
+        RSA_SHA1 00 is refused 95 121
+        # another magic, and the type of a certification
+        RSA_SHA1 3=46 is refused 84 0
+        RSA_SHA1 0=fe is refused 84 0
+        RSA_SHA1 5=17 is refused 84 4
+        RSA_SHA1 5=14 is refused 84 4
+        # a Name and a nonce of 67 bytes
+        RSA_SHA1 7=43 is refused 95 6
+        RSA_SHA1 43=43 is refused 95 42
+        # neither safe nor unsafe
+        RSA_SHA1 80=02 is refused 84 80
+        RSA_SHA1 80=ff is refused 84 80
+        # the information of a quote, which is judged as it is alone
+        RSA_SHA1 92=04 is refused 95 89
+        RSA_SHA1 95=04 is refused 84 95
+        ",
+    );
+    attest_or_fault();
     rows::<Answers>(
         &rt,
         BYTES,
@@ -349,32 +369,6 @@ fn a_quote_of_the_registers_after_its_log_is_the_one_that_was_asked_for(rt: Host
     );
     boot_to_quote();
     records_of_the_quote();
-}
-
-// A quote of these bytes, and the registers of a bank.
-struct Selects;
-
-impl Asked for Selects {
-    fn ask(row: &mut Row<'_>) {
-        let required = required(row);
-        match decode_attest(row.rest().as_slice()) {
-            Ok(attest) => are_selected(row, &attest.quote.selections, &required),
-            Err(_) => row.holds(false),
-        }
-    }
-}
-
-fn are_selected(row: &mut Row<'_>, quoted: &Selections, required: &Selections) {
-    row.prints(selects_none(quoted));
-    row.prints(selects_none(required));
-    match first_not_selected(quoted, required) {
-        Some(missing) => lacks(row, missing),
-        None => row.is("none"),
-    }
-}
-
-#[test]
-fn a_quote_of_no_register_selects_none(rt: HostRuntime) {
     rows::<Selects>(
         &rt,
         BYTES,

@@ -42,29 +42,6 @@ impl Asked for Quotes {
     }
 }
 
-#[test]
-fn a_quote_is_decoded(rt: HostRuntime) {
-    rows::<Quotes>(
-        &rt,
-        BYTES,
-        "
-        QUOTE is b 000080 DIGEST
-        - is refused 9a 0
-        # four entries
-        00000004 is refused 95 0
-        # an unknown hash, and four bytes of bits
-        000000010010 is refused 83 4
-        00000001000b04 is refused 84 6
-        # a digest that is not there, that has more than 48 bytes, and of which one is not there
-        00000001000b03000080 is refused 9a 10
-        000000000031 is refused 95 4
-        000000000002aa is refused 9a 6
-        # a byte behind it
-        000000000002aabb00 is refused 95 8
-        ",
-    );
-}
-
 // No entry and an empty digest, and more behind it than a buffer has.
 #[test]
 fn more_than_a_buffer_has_is_refused(rt: HostRuntime) {
@@ -91,7 +68,26 @@ impl Asked for Beside {
 }
 
 #[test]
-fn a_quote_of_the_registers_after_a_log_matches(rt: HostRuntime) {
+fn a_quote_is_decoded_and_matches_the_registers_after_its_log(rt: HostRuntime) {
+    rows::<Quotes>(
+        &rt,
+        BYTES,
+        "
+        QUOTE is b 000080 DIGEST
+        - is refused 9a 0
+        # four entries
+        00000004 is refused 95 0
+        # an unknown hash, and four bytes of bits
+        000000010010 is refused 83 4
+        00000001000b04 is refused 84 6
+        # a digest that is not there, that has more than 48 bytes, and of which one is not there
+        00000001000b03000080 is refused 9a 10
+        000000000031 is refused 95 4
+        000000000002aa is refused 9a 6
+        # a byte behind it
+        000000000002aabb00 is refused 95 8
+        ",
+    );
     rows::<Beside>(
         &rt,
         BYTES,

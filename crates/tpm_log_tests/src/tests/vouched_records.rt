@@ -72,25 +72,6 @@ fn are_vouched(row: &mut Row<'_>, parts: &[VouchedPart]) {
     }
 }
 
-#[test]
-fn each_bank_vouches_for_what_it_has_the_digest_of(rt: HostRuntime) {
-    rows::<Records>(
-        &rt,
-        BYTES,
-        "
-        8 d 00000003 0004 03000100 000b 03000100 000c 03000100 is vouched 4 Text b Data c Other
-        8 d 00000002 000c 03000100 000b 03000300 is vouched b Data c Other
-        9 d 00000002 000c 03000100 000b 03000300 is vouched b Data
-        9 d 00000003 0004 03000100 000b 03000100 000c 03000100 is vouched
-        0 d 00000002 000c 03000100 000b 03000300 is vouched
-        32 d 00000003 0004 03000100 000b 03000100 000c 03000100 is vouched
-        8 3 00000003 0004 03000100 000b 03000100 000c 03000100 is vouched
-        8 d 00000000 is vouched
-        ",
-    );
-    vouched_of_the_log();
-}
-
 fn allowed(row: &mut Row<'_>, bank: Alg, register: PcrIndex, digest: &str) -> AllowedDigest {
     let bytes = row.of(digest);
     AllowedDigest {
@@ -125,32 +106,6 @@ impl Asked for Lacks {
     }
 }
 
-#[test]
-fn a_list_allows_digests_of_its_registers_alone(rt: HostRuntime) {
-    rows::<Records>(
-        &rt,
-        BYTES,
-        "
-        8 d is unknown
-        9 d is unknown b
-        4 d is unknown
-        7 d is unknown
-        9 3 is unknown
-        ",
-    );
-    rows::<Lacks>(
-        &rt,
-        BYTES,
-        "
-        00000001 0004 03000100 is 4 4
-        00000002 000b 03000100 0004 03100100 is b 9
-        00000002 0004 03100100 000b 03000300 is none
-        ",
-    );
-    allowed_by_the_log();
-    allowed_by_the_quote();
-}
-
 // A list of one digest of SHA-256, for this register, beside the log that extends register 7 by SEPARATOR alone.
 struct OfLog;
 
@@ -164,19 +119,6 @@ impl Asked for OfLog {
             Err(_) => row.holds(false),
         }
     }
-}
-
-#[test]
-fn a_list_allows_a_log_whose_digests_are_on_it(rt: HostRuntime) {
-    rows::<OfLog>(
-        &rt,
-        BYTES,
-        "
-        7 SEPARATOR is true
-        7 ZEROS is false
-        8 ZEROS is true
-        ",
-    );
 }
 
 // A hash and a register, and a digest; whether the list names the first two, and whether it allows them all. Then its
@@ -200,7 +142,55 @@ impl Asked for Named {
 }
 
 #[test]
-fn a_list_names_registers_and_digests_and_is_in_order(rt: HostRuntime) {
+fn each_bank_vouches_for_its_digests_and_a_list_allows_those_of_its_registers_alone(
+    rt: HostRuntime,
+) {
+    rows::<Records>(
+        &rt,
+        BYTES,
+        "
+        8 d 00000003 0004 03000100 000b 03000100 000c 03000100 is vouched 4 Text b Data c Other
+        8 d 00000002 000c 03000100 000b 03000300 is vouched b Data c Other
+        9 d 00000002 000c 03000100 000b 03000300 is vouched b Data
+        9 d 00000003 0004 03000100 000b 03000100 000c 03000100 is vouched
+        0 d 00000002 000c 03000100 000b 03000300 is vouched
+        32 d 00000003 0004 03000100 000b 03000100 000c 03000100 is vouched
+        8 3 00000003 0004 03000100 000b 03000100 000c 03000100 is vouched
+        8 d 00000000 is vouched
+        ",
+    );
+    vouched_of_the_log();
+    rows::<Records>(
+        &rt,
+        BYTES,
+        "
+        8 d is unknown
+        9 d is unknown b
+        4 d is unknown
+        7 d is unknown
+        9 3 is unknown
+        ",
+    );
+    rows::<Lacks>(
+        &rt,
+        BYTES,
+        "
+        00000001 0004 03000100 is 4 4
+        00000002 000b 03000100 0004 03100100 is b 9
+        00000002 0004 03100100 000b 03000300 is none
+        ",
+    );
+    allowed_by_the_log();
+    allowed_by_the_quote();
+    rows::<OfLog>(
+        &rt,
+        BYTES,
+        "
+        7 SEPARATOR is true
+        7 ZEROS is false
+        8 ZEROS is true
+        ",
+    );
     rows::<Named>(
         &rt,
         BYTES,
