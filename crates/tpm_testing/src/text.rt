@@ -1,6 +1,6 @@
 //! Words of a line, and what they stand for.
 
-use tpm_wire::Buffer;
+use tpm_wire::{Buffer, Wire, take_whole};
 
 /// The next word of a line, and the rest of it. After its last word a line is empty.
 pub fn word<'a>(line: &mut &'a str) -> &'a str {
@@ -27,4 +27,27 @@ pub fn bytes(text: &str) -> Option<Buffer> {
         }
     }
     Some(all)
+}
+
+/// The bytes of hexadecimal words, one behind the other, and none where one of them is no such thing.
+pub fn spelled(text: &str) -> Buffer {
+    match bytes(text) {
+        Some(bytes) => bytes,
+        None => Buffer::new(),
+    }
+}
+
+/// The bytes of the next word of a line.
+pub fn next_bytes(line: &mut &str) -> Buffer {
+    spelled(word(line))
+}
+
+/// The number of the next word of a line, in hexadecimal, or the greatest where the word is no such thing.
+pub fn next_number(line: &mut &str) -> u32 {
+    number(word(line)).unwrap_or(u32::MAX)
+}
+
+/// The value that the bytes of the next word of a line spell, if they spell one.
+pub fn next_value<T: Wire + Drop>(line: &mut &str) -> Option<T> {
+    take_whole(next_bytes(line).as_slice()).ok()
 }

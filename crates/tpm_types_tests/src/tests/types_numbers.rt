@@ -2,8 +2,8 @@
 //! and the answer in hexadecimal, `-` for none.
 
 use arrayvec::ArrayVec;
-use std::process::Abort;
 use std::test::*;
+use tpm_testing::{next_number, word};
 use tpm_types::{
     Alg, BindHandle, Digest, Digests, HashedDigest, Name, NvAttrs, NvAuthHandle, OrDigests,
     PcrIndex, PcrOrNull, SessionAttrs, StartupType,
@@ -11,59 +11,81 @@ use tpm_types::{
 use tpm_wire::Counted;
 use tpm_wire::response_code::{of_handle, of_parameter, of_session};
 
-fn answers(rt: &impl Abort, lines: &str) {
-    for line in lines.lines() {
-        let line = line.trim();
-        let is_said = line.is_empty() || line.starts_with('#');
-        assert!(rt; is_said || is_so(line) == Some(true), "{line}");
-    }
-}
+// What is answered where there is none.
+const NONE: u64 = u64::MAX;
 
-// Whether a line is so, or none where it has another form.
-fn is_so(line: &str) -> Option<bool> {
-    let (word, rest) = line.split_once(' ')?;
-    let (number, expected) = rest.split_once(' ')?;
-    let number = u32::from_str_radix(number, 16).ok()?;
-    let expected = u64::from_str_radix(expected, 16).ok();
-    Some(asked(word, number) == expected)
+// Whether a line is so, or says what the next are about.
+fn is_so(line: &str) -> bool {
+    let mut rest = line;
+    let asked_word = word(&mut rest);
+    let number = next_number(&mut rest);
+    let is_said = asked_word.is_empty() || asked_word == "#";
+    is_said || asked(asked_word, number) == u64::from_str_radix(rest, 16).unwrap_or(NONE)
 }
 
 // The answer to this word.
-fn asked(word: &str, number: u32) -> Option<u64> {
+fn asked(word: &str, number: u32) -> u64 {
     match word {
-        "nv" => Some(bits(&nv_queries(NvAttrs::from_number(number)?))),
-        "written" => Some(NvAttrs::from_number(number)?.with_written().number() as u64),
-        "pcr" => Some(PcrIndex::from_number(number)?.number() as u64),
-        "pcr-or-null" => Some(PcrOrNull::from_number(number)?.number() as u64),
-        "nv-auth" => Some(NvAuthHandle::from_number(number)?.number() as u64),
-        "bind" => Some(BindHandle::from_number(number)?.number() as u64),
-        _ => asked_short(word, u16::try_from(number).ok()?),
+        "nv" => match NvAttrs::from_number(number) {
+            Some(attrs) => bits(&nv_queries(attrs)),
+            None => NONE,
+        },
+        "written" => match NvAttrs::from_number(number) {
+            Some(attrs) => attrs.with_written().number() as u64,
+            None => NONE,
+        },
+        "pcr" => match PcrIndex::from_number(number) {
+            Some(register) => register.number() as u64,
+            None => NONE,
+        },
+        "pcr-or-null" => match PcrOrNull::from_number(number) {
+            Some(handle) => handle.number() as u64,
+            None => NONE,
+        },
+        "nv-auth" => match NvAuthHandle::from_number(number) {
+            Some(handle) => handle.number() as u64,
+            None => NONE,
+        },
+        "bind" => match BindHandle::from_number(number) {
+            Some(handle) => handle.number() as u64,
+            None => NONE,
+        },
+        _ => match u16::try_from(number) {
+            Ok(number) => asked_short(word, number),
+            Err(_) => NONE,
+        },
     }
 }
 
-fn asked_short(word: &str, number: u16) -> Option<u64> {
-    match word {
-        "hash" => Some(Alg::from_number(number)?.number() as u64),
-        "digest" => Some(Alg::from_number(number)?.digest_len() as u64),
-        "block" => Some(Alg::from_number(number)?.block_len() as u64),
-        "startup" => Some(StartupType::from_number(number)?.number() as u64),
-        "lengths" => Some(lengths(Alg::from_number(number)?)),
-        _ => asked_small(word, u8::try_from(number).ok()?),
+fn asked_short(word: &str, number: u16) -> u64 {
+    match (word, Alg::from_number(number)) {
+        ("hash", Some(hash)) => hash.number() as u64,
+        ("digest", Some(hash)) => hash.digest_len() as u64,
+        ("block", Some(hash)) => hash.block_len() as u64,
+        ("lengths", Some(hash)) => lengths(hash),
+        ("startup", _) => match StartupType::from_number(number) {
+            Some(kind) => kind.number() as u64,
+            None => NONE,
+        },
+        _ => match u8::try_from(number) {
+            Ok(number) => asked_small(word, number),
+            Err(_) => NONE,
+        },
     }
 }
 
-fn asked_small(word: &str, number: u8) -> Option<u64> {
+fn asked_small(word: &str, number: u8) -> u64 {
     match word {
-        "handle" if number < 4 => Some(of_handle(number as u32) as u64),
-        "parameter" if number < 4 => Some(of_parameter(number as u32) as u64),
-        "session" if number < 4 => Some(of_session(number as u32) as u64),
-        "attributes" => {
-            let attrs = SessionAttrs::from_number(number)?;
-            Some(bits(&[attrs.continues(), attrs.audits_or_encrypts()]))
-        }
-        "sized" if number <= 51 => Some(bits(&sized(&[0x5A; 51][..number as usize]))),
-        "listed" => Some(bits(&listed(number as usize))),
-        _ => None,
+        "handle" if number < 4 => of_handle(number as u32) as u64,
+        "parameter" if number < 4 => of_parameter(number as u32) as u64,
+        "session" if number < 4 => of_session(number as u32) as u64,
+        "attributes" => match SessionAttrs::from_number(number) {
+            Some(attrs) => bits(&[attrs.continues(), attrs.audits_or_encrypts()]),
+            None => NONE,
+        },
+        "sized" if number <= 51 => bits(&sized(&[0x5A; 51][..number as usize])),
+        "listed" => bits(&listed(number as usize)),
+        _ => NONE,
     }
 }
 
@@ -125,12 +147,10 @@ fn lengths(hash: Alg) -> u64 {
     bits
 }
 
-// Of handle, parameter and session 1 to 3.
 #[test]
-fn numbers_that_are_added(rt: HostRuntime) {
-    answers(
-        &rt,
-        "
+fn numbers_are_answered(rt: HostRuntime) {
+    let lines = "
+        # Of handle, parameter and session 1 to 3.
         handle 1 100
         handle 2 200
         handle 3 300
@@ -140,16 +160,7 @@ fn numbers_that_are_added(rt: HostRuntime) {
         session 1 900
         session 2 a00
         session 3 b00
-        ",
-    );
-}
-
-// The bytes of a digest and of a block, and the lengths of digests that are taken.
-#[test]
-fn numbers_and_sizes_of_hashes_and_numbers_of_others(rt: HostRuntime) {
-    answers(
-        &rt,
-        "
+        # The bytes of a digest and of a block, and a bit for each length of digests that is taken.
         hash 0004 0004
         digest 0004 14
         block 0004 40
@@ -166,15 +177,7 @@ fn numbers_and_sizes_of_hashes_and_numbers_of_others(rt: HostRuntime) {
         startup 0001 0001
         pcr 17 17
         pcr 18 -
-        ",
-    );
-}
-
-#[test]
-fn handles_of_one_kind_or_another(rt: HostRuntime) {
-    answers(
-        &rt,
-        "
+        # Handles of one kind or another.
         pcr-or-null 00000010 10
         pcr-or-null 40000007 40000007
         pcr-or-null 00000018 -
@@ -188,19 +191,8 @@ fn handles_of_one_kind_or_another(rt: HostRuntime) {
         bind 40000007 40000007
         bind 01800001 -
         bind 40000009 -
-        ",
-    );
-}
-
-// A bit for each, the highest for counter; writes: owner, auth, policy; reads: owner, auth, policy; no_da, written;
-// writable, readable, undefinable. Then WRITTEN is added.
-#[test]
-fn queries_of_nv_attributes(rt: HostRuntime) {
-    answers(
-        &rt,
-        "
-        # counter; writes: owner, auth, policy; reads: owner, auth, policy; no_da, written; writable, readable,
-        # undefinable
+        # `nv`: a bit for each, the highest for counter; writes: owner, auth, policy; reads: owner, auth, policy; no_da,
+        # written; writable, readable, undefinable.
         nv 00000000 000
         # PPWRITE, OWNERWRITE, AUTHWRITE, POLICYWRITE
         nv 00000001 004
@@ -234,16 +226,7 @@ fn queries_of_nv_attributes(rt: HostRuntime) {
         nv 22060016 edf
         written 02060016 22060016
         written 20000010 20000010
-        ",
-    );
-}
-
-// A bit for continueSession, and one for what audits or encrypts.
-#[test]
-fn queries_of_session_attributes(rt: HostRuntime) {
-    answers(
-        &rt,
-        "
+        # `attributes`: a bit for continueSession, and one for what audits or encrypts.
         attributes 00 0
         attributes 01 2
         attributes 02 1
@@ -251,17 +234,8 @@ fn queries_of_session_attributes(rt: HostRuntime) {
         attributes 20 1
         attributes 41 3
         attributes 80 1
-        ",
-    );
-}
-
-// `sized`: a bit for a digest and one for a Name. `listed`: for the digests of TPM2_PCR_Read, for those of
-// TPM2_PolicyOR, and for one to three numbers.
-#[test]
-fn how_many_bytes_and_entries_there_may_be(rt: HostRuntime) {
-    answers(
-        &rt,
-        "
+        # `sized`: a bit for a digest and one for a Name. `listed`: for the digests of TPM2_PCR_Read, for those of
+        # TPM2_PolicyOR, and for one to three numbers.
         sized 00 3
         sized 30 3
         sized 31 1
@@ -274,6 +248,8 @@ fn how_many_bytes_and_entries_there_may_be(rt: HostRuntime) {
         listed 4 6
         listed 8 6
         listed 9 0
-        ",
-    );
+    ";
+    for line in lines.lines() {
+        assert!(rt; is_so(line.trim()), "{line}");
+    }
 }
