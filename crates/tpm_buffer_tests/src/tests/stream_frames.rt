@@ -1,10 +1,9 @@
 //! Frames of pieces, and of readers.
 
-use crate::tests::buffer_checks::bytes;
 use std::process::Abort;
 use std::test::*;
 use tpm_stream::{Framer, FramerState, ReadFault, read_frame, read_frame_into};
-use tpm_testing::Pieces;
+use tpm_testing::{Pieces, spelled};
 use tpm_wire::{Buffer, Reads, Refusal, SliceSource, Source};
 
 /// PCR_Read of register 0 in SHA-256, of 20 bytes.
@@ -69,10 +68,10 @@ frame -> -";
 
 // Beginnings with a size outside of the bounds.
 const BROKEN: [&str; 4] = [
-    "8001 00000009",
-    "8001 00001001",
-    "0000 00000000",
-    "ffff ffffffff",
+    "8001 00000009 -> 6 broken",
+    "8001 00001001 -> 6 broken",
+    "0000 00000000 -> 6 broken",
+    "ffff ffffffff -> 6 broken",
 ];
 
 // What comes of a framer behind each of them.
@@ -95,12 +94,12 @@ fn status(text: &str) -> FramerState {
 }
 
 // Whether the line comes true.
-fn step(rt: &impl Abort, framer: &mut Framer, line: &str) -> bool {
+fn step(framer: &mut Framer, line: &str) -> bool {
     match line.split_once(" -> ") {
-        Some(("frame", wanted)) => { framer.frame().unwrap_or(&[]) == bytes(rt, wanted).as_slice() }
+        Some(("frame", wanted)) => framer.frame().unwrap_or(&[]) == spelled(wanted).as_slice(),
         Some((piece, wanted)) => {
             let (taken, said) = wanted.split_once(' ').unwrap_or(("", ""));
-            let (count, answer) = framer.push(bytes(rt, piece).as_slice());
+            let (count, answer) = framer.push(spelled(piece).as_slice());
             taken.parse() == Ok(count) && answer == status(said)
         }
         None => {
@@ -115,21 +114,16 @@ fn step(rt: &impl Abort, framer: &mut Framer, line: &str) -> bool {
 
 fn takes_steps(rt: &impl Abort, framer: &mut Framer, steps: &str) {
     for line in steps.lines() {
-        assert!(rt; step(rt, framer, line), "{line}");
+        assert!(rt; step(framer, line), "{line}");
     }
 }
 
 #[test]
-fn frames_come_in_pieces(rt: HostRuntime) {
+fn frames_come_in_pieces_and_a_bad_size_breaks_the_framer_for_ever(rt: HostRuntime) {
     takes_steps(&rt, &mut Framer::new(), STEPS);
-}
-
-#[test]
-fn a_bad_size_breaks_the_framer_for_ever(rt: HostRuntime) {
-    for text in BROKEN {
+    for line in BROKEN {
         let mut framer = Framer::new();
-        let pushed = framer.push(bytes(&rt, text).as_slice());
-        assert!(&rt; pushed == (6, FramerState::Broken(BAD_SIZE)), "{text}");
+        takes_steps(&rt, &mut framer, line);
         takes_steps(&rt, &mut framer, BEHIND);
     }
 }
@@ -144,106 +138,99 @@ fn the_greatest_size_is_framed(rt: HostRuntime) {
     assert!(&rt; framer.frame().unwrap_or(&[]) == &most[..4096]);
 }
 
-/// The next frame of the source is this one, and none where it is empty; or the fault.
-fn gives<R: Source>(rt: &impl Abort, source: &mut R, wanted: Result<&[u8], ReadFault>) {
-    let given = match (read_frame(source), wanted) {
+// Whether the next frame of the source is this one, and none where it is empty; or the fault.
+fn gives<R: Source>(source: &mut R, wanted: Result<&[u8], ReadFault>) -> bool {
+    match (read_frame(source), wanted) {
         (Ok(Some(read)), Ok(frame)) => read.as_slice() == frame,
         (Ok(None), Ok(frame)) => frame.is_empty(),
         (Err(fault), Err(wanted)) => fault == wanted,
         _ => false,
-    };
-    assert!(rt; given);
+    }
 }
 
-/// The same of these bytes: from a source that tells them, from one that gives one byte a read, and from a reader.
-fn all_give(rt: &impl Abort, bytes: &[u8], wanted: Result<&[u8], ReadFault>) {
-    gives(rt, &mut SliceSource::new(bytes), wanted);
-    gives(rt, &mut Pieces::new(bytes, 1), wanted);
-    gives(rt, &mut Reads::new(bytes), wanted);
+// The same of these bytes: from a source that tells them, from one that gives one byte a read, and from a reader.
+fn all_give(bytes: &[u8], wanted: Result<&[u8], ReadFault>) -> bool {
+    gives(&mut SliceSource::new(bytes), wanted)
+        && gives(&mut Pieces::new(bytes, 1), wanted)
+        && gives(&mut Reads::new(bytes), wanted)
 }
 
 #[test]
 fn frames_are_read(rt: HostRuntime) {
-    let whole = bytes(&rt, READ);
+    let whole = spelled(READ);
+    let whole = whole.as_slice();
     // An end is none before the first byte, and inside after it.
-    all_give(&rt, &[], Ok(&[]));
+    assert!(rt; all_give(&[], Ok(&[])) && all_give(whole, Ok(whole)));
     for k in 1..whole.len() {
-        all_give(&rt, &whole.as_slice()[..k], Err(ReadFault::EndInside));
+        assert!(rt; all_give(&whole[..k], Err(ReadFault::EndInside)), "{k}");
     }
-    all_give(&rt, whole.as_slice(), Ok(whole.as_slice()));
-    // A bad size is refused.
     for text in ["8001 00000009", "8001 00001001", "8001 00000009 01"] {
         let fault = Err(ReadFault::Broken(BAD_SIZE));
-        all_give(&rt, bytes(&rt, text).as_slice(), fault);
+        assert!(rt; all_give(spelled(text).as_slice(), fault), "{text}");
     }
-    // One after the other: Startup with the tag 8003, and then PCR_Read.
-    let startup = bytes(&rt, "8003 0000000c 00000144 0000");
-    let both = bytes(
-        &rt,
-        "8003 0000000c 00000144 0000 8001 00000014 0000017e 00000001 000b 03 010000",
-    );
-    let mut source = SliceSource::new(both.as_slice());
-    gives(&rt, &mut source, Ok(startup.as_slice()));
-    gives(&rt, &mut source, Ok(whole.as_slice()));
-    gives(&rt, &mut source, Ok(&[]));
 }
 
-// The longer frame comes first, so that nothing of it may be left; and where there is none the buffer is empty.
+// Startup with the tag 8003, and PCR_Read behind it.
+const SHORTER: &str = "8003 0000000c 00000144 0000";
+
+const BOTH: &str = "8003 0000000c 00000144 0000 8001 00000014 0000017e 00000001 000b 03 010000";
+
+// PCR_Read, Startup, and the beginning of another.
+const THREE: &str =
+    "8001 00000014 0000017e 00000001 000b 03 010000 8003 0000000c 00000144 0000 8001 0000000c 0000";
+
 #[test]
-fn frames_are_read_into_one_buffer(rt: HostRuntime) {
-    let longer = bytes(&rt, READ);
-    let shorter = bytes(&rt, "8003 0000000c 00000144 0000");
-    let all = bytes(
-        &rt,
-        "8001 00000014 0000017e 00000001 000b 03 010000 8003 0000000c 00000144 0000 8001 0000000c 0000",
-    );
-    let mut source = SliceSource::new(all.as_slice());
+fn frames_are_read_one_after_the_other(rt: HostRuntime) {
+    let longer = spelled(READ);
+    let shorter = spelled(SHORTER);
+    let (longer, shorter) = (longer.as_slice(), shorter.as_slice());
+    let both = spelled(BOTH);
+    let mut source = SliceSource::new(both.as_slice());
+    assert!(rt; gives(&mut source, Ok(shorter)) && gives(&mut source, Ok(longer)));
+    assert!(rt; gives(&mut source, Ok(&[])));
+    // The longer frame comes first, so that nothing of it may be left; and where there is none the buffer is empty.
+    let three = spelled(THREE);
+    let mut source = SliceSource::new(three.as_slice());
     let mut frame = Buffer::new();
     let first = read_frame_into(&mut source, &mut frame);
-    assert!(&rt; first == Ok(true) && frame.as_slice() == longer.as_slice());
+    assert!(rt; first == Ok(true) && frame.as_slice() == longer);
     let second = read_frame_into(&mut source, &mut frame);
-    assert!(&rt; second == Ok(true) && frame.as_slice() == shorter.as_slice());
+    assert!(rt; second == Ok(true) && frame.as_slice() == shorter);
     let third = read_frame_into(&mut source, &mut frame);
-    assert!(&rt; third == Err(ReadFault::EndInside) && frame.is_empty());
+    assert!(rt; third == Err(ReadFault::EndInside) && frame.is_empty());
     let last = read_frame_into(&mut source, &mut frame);
-    assert!(&rt; last == Ok(false) && frame.is_empty());
+    assert!(rt; last == Ok(false) && frame.is_empty());
 }
 
-// What comes first of a source that gives one byte a read, and how often it is read.
-fn reads(rt: &impl Abort, source: Pieces<'_>, wanted: Result<&[u8], ReadFault>, reads: usize) {
-    let mut source = source;
-    gives(rt, &mut source, wanted);
-    assert!(rt; source.reads == reads);
+// Whether this comes first of a source, in so many reads.
+fn reads(mut source: Pieces<'_>, wanted: Result<&[u8], ReadFault>, reads: usize) -> bool {
+    gives(&mut source, wanted) && source.reads == reads
 }
 
 #[test]
-fn no_read_is_tried_again(rt: HostRuntime) {
-    let whole = bytes(&rt, READ);
+fn no_read_is_tried_again_and_there_are_as_many_as_bytes_at_most(rt: HostRuntime) {
+    let whole = spelled(READ);
     let frame = whole.as_slice();
+    // The first read that fails, or gives no bytes, which are the end, though more would come.
     for k in 1..21 {
-        reads(&rt, Pieces::failing(frame, 1, k), Err(ReadFault::Device), k);
-    }
-    reads(&rt, Pieces::failing(frame, 1, 21), Ok(frame), 20);
-    // No bytes are the end, though more would come.
-    reads(&rt, Pieces::pausing(frame, 1, 1), Ok(&[]), 1);
-    for k in 2..21 {
-        reads(
-            &rt,
-            Pieces::pausing(frame, 1, k),
-            Err(ReadFault::EndInside),
-            k,
+        let wanted = if k == 1 {
+            Ok([].as_slice())
+        } else {
+            Err(ReadFault::EndInside)
+        };
+        assert!(rt;
+            reads(Pieces::failing(frame, 1, k), Err(ReadFault::Device), k),
+            "{k}"
         );
+        assert!(rt; reads(Pieces::pausing(frame, 1, k), wanted, k), "{k}");
     }
-    reads(&rt, Pieces::pausing(frame, 1, 21), Ok(frame), 20);
-}
-
-#[test]
-fn there_are_as_many_reads_as_bytes_at_most(rt: HostRuntime) {
+    assert!(rt; reads(Pieces::failing(frame, 1, 21), Ok(frame), 20));
+    assert!(rt; reads(Pieces::pausing(frame, 1, 21), Ok(frame), 20));
     let mut most = [0; 4100];
     most[4] = 0x10;
-    reads(&rt, Pieces::new(&most, 1), Ok(&most[..4096]), 4096);
+    assert!(rt; reads(Pieces::new(&most, 1), Ok(&most[..4096]), 4096));
     // A bad size is refused after six, whatever follows.
     let fault = ReadFault::Broken(BAD_SIZE);
-    reads(&rt, Pieces::new(&[0x00; 100], 1), Err(fault), 6);
-    reads(&rt, Pieces::new(&[0xFF; 100], 1), Err(fault), 6);
+    assert!(rt; reads(Pieces::new(&[0x00; 100], 1), Err(fault), 6));
+    assert!(rt; reads(Pieces::new(&[0xFF; 100], 1), Err(fault), 6));
 }
