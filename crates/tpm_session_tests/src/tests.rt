@@ -2,11 +2,10 @@
 
 mod hmac_hashes;
 mod hmac_macs;
-mod nv_kept;
-mod pcr_and_nv_values;
+mod nv_values;
+mod pcr_values;
 mod session_authorize;
 mod session_calls;
 mod session_policies;
 mod session_scripts;
 mod session_slots;
-mod session_texts;

@@ -1,41 +1,35 @@
 //! Hashes, HMACs and derived keys. A script's line is told in `session_scripts`.
 
 use crate::tests::session_scripts::run;
-use crate::tests::session_texts::{alg, bytes};
-use std::process::Abort;
 use std::test::*;
 use tpm_hmac::{hash, hmac, kdfa, same, trim};
-use tpm_testing::word;
+use tpm_testing::{next_bytes, next_value};
 use tpm_types::Alg;
-use tpm_wire::Buffer;
 
 /// Whether the line's hash, HMAC or derived key is so.
-pub fn is_hashed(rt: &impl Abort, what: &str, mut rest: &str) -> bool {
-    let alg = alg(rt, word(&mut rest));
-    let first = bytes(rt, word(&mut rest));
-    let second = bytes(rt, word(&mut rest));
+pub fn is_hashed(what: &str, mut rest: &str) -> bool {
+    let alg = next_value::<Alg>(&mut rest).unwrap_or_default();
+    let first = next_bytes(&mut rest);
+    let second = next_bytes(&mut rest);
+    let (first, second) = (first.as_slice(), second.as_slice());
     match what {
-        "hash" => hash(alg, &[first.as_slice()]).as_slice() == second.as_slice(),
-        "hmac" => {
-            let mac = hmac(alg, first.as_slice(), &[second.as_slice()]);
-            mac.as_slice() == bytes(rt, rest).as_slice()
-        }
-        "kdfa" => is_derived(rt, alg, &first, &second, rest),
+        "hash" => hash(alg, &[first]).as_slice() == second,
+        "hmac" => hmac(alg, first, &[second]).as_slice() == next_bytes(&mut rest).as_slice(),
+        "kdfa" => is_derived(alg, first, second, rest),
         _ => false,
     }
 }
 
-fn is_derived(rt: &impl Abort, alg: Alg, key: &Buffer, label: &Buffer, rest: &str) -> bool {
-    let mut rest = rest;
-    let context_u = bytes(rt, word(&mut rest));
-    let context_v = bytes(rt, word(&mut rest));
-    let expected = bytes(rt, rest);
+fn is_derived(alg: Alg, key: &[u8], label: &[u8], mut rest: &str) -> bool {
+    let context_u = next_bytes(&mut rest);
+    let context_v = next_bytes(&mut rest);
+    let expected = next_bytes(&mut rest);
     let mut room = [0; 72];
     let derived = &mut room[..expected.len().min(72)];
     kdfa(
         alg,
-        key.as_slice(),
-        label.as_slice(),
+        key,
+        label,
         context_u.as_slice(),
         context_v.as_slice(),
         derived,
@@ -99,22 +93,13 @@ fn hashes_hmacs_and_derived_keys_are_those_of_the_standards(rt: HostRuntime) {
 }
 
 #[test]
-fn joined_parts_are_one_text(rt: HostRuntime) {
+fn joined_parts_are_one_text_and_trailing_zeros_alone_are_trimmed(rt: HostRuntime) {
     let parts = hmac(Alg::Sha1, &[0x0B; 20], &[b"Hi ", b"", b"There"]);
     assert!(rt; parts == hmac(Alg::Sha1, &[0x0B; 20], &[b"Hi There"]));
     assert!(rt; hash(Alg::Sha1, &[b"a", b"bc"]) == hash(Alg::Sha1, &[b"abc"]));
-}
-
-#[test]
-fn trailing_zeros_alone_are_trimmed_and_a_prefix_is_another_list(rt: HostRuntime) {
     let trimmed = (trim(&[0, 1, 0, 2, 0, 0]), trim(&[0, 0]), trim(&[]));
-    let equal = [
-        same(b"abc", b"abc"),
-        same(b"", b""),
-        same(b"abc", b"abd"),
-        same(b"abc", b"ab"),
-        same(b"", b"a"),
-    ];
-    let expected = ([0, 1, 0, 2].as_slice(), [].as_slice(), [].as_slice());
-    assert!(rt; (trimmed, equal) == (expected, [true, true, false, false, false]));
+    assert!(rt; trimmed == ([0, 1, 0, 2].as_slice(), [].as_slice(), [].as_slice()));
+    // a prefix is another list
+    assert!(rt; same(b"abc", b"abc") && same(b"", b""));
+    assert!(rt; !same(b"abc", b"abd") && !same(b"abc", b"ab") && !same(b"", b"a"));
 }

@@ -1,11 +1,9 @@
 //! The MACs of commands and responses between tpm2-tss 3.2.1 and libtpms 0.9.2, as they went between them.
 
 use crate::tests::session_scripts::run;
-use crate::tests::session_texts::{alg, bytes, number};
-use std::process::Abort;
 use std::test::*;
 use tpm_hmac::{SessionKey, command_mac, cp_hash, response_mac, rp_hash};
-use tpm_testing::word;
+use tpm_testing::{next_bytes, next_number, next_value, spelled, word};
 use tpm_types::{Alg, CommandCode, Digest, Name, SessionAttrs};
 
 // A command or a response a line: its hash, the session key, the authorization value, the code, the
@@ -41,44 +39,39 @@ mac response 000c 80928232c9fa129837e2162c272aa4a57f564e81478cddffb29cda0ab82d90
 mac command 0004 01020304 6100620000 00000129 - - 000102030405060708090a0b0c0d0e0f10111213 a0a1a2a3 b0b1b2b3b4 01 4d0b2dd8c68d5592d00db1963251da36bb7b5768
 mac response 0004 01020304 6100620000 00000129 - - 000102030405060708090a0b0c0d0e0f10111213 a0a1a2a3 b0b1b2b3b4 01 4d0b2dd8c68d5592d00db1963251da36bb7b5768";
 
-fn name(rt: &impl Abort, text: &str) -> Name {
-    Name::new(bytes(rt, text).as_slice()).expect(rt, text)
+/// The Name of these bytes, or none where they are no Name.
+pub fn name(text: &str) -> Name {
+    Name::new(spelled(text).as_slice()).unwrap_or_default()
 }
 
 // cpHash of a command or rpHash of a response.
-fn p_hash(rt: &impl Abort, side: &str, alg: Alg, code: CommandCode, rest: &mut &str) -> Digest {
+fn p_hash(side: &str, alg: Alg, code: CommandCode, rest: &mut &str) -> Digest {
     let names = word(rest);
-    let params = bytes(rt, word(rest));
+    let params = next_bytes(rest);
     match names.split_once('+') {
         _ if side == "response" => rp_hash(alg, code, params.as_slice()),
-        Some((first, second)) => {
-            let names = [name(rt, first), name(rt, second)];
-            cp_hash(alg, code, &names, params.as_slice())
-        }
-        None => cp_hash(alg, code, &[name(rt, names)], params.as_slice()),
+        Some((first, second)) => cp_hash(
+            alg,
+            code,
+            &[name(first), name(second)],
+            params.as_slice(),
+        ),
+        None => cp_hash(alg, code, &[name(names)], params.as_slice()),
     }
 }
 
-// The bytes of the next word.
-fn digest(rt: &impl Abort, rest: &mut &str) -> Digest {
-    let text = word(rest);
-    Digest::new(bytes(rt, text).as_slice()).expect(rt, text)
+// The digest of the next word.
+fn digest(rest: &mut &str) -> Digest {
+    Digest::new(next_bytes(rest).as_slice()).unwrap_or_default()
 }
 
 // Whether the rest of a line, from the hash of the parameters on, ends in the MAC, also by a key that is hashed once.
-fn ends_in_the_mac(rt: &impl Abort, side: &str, alg: Alg, keys: [Digest; 2], rest: &str) -> bool {
-    let mut rest = rest;
-    let [session_key, auth_value] = keys;
-    let texts = [
-        digest(rt, &mut rest),
-        digest(rt, &mut rest),
-        digest(rt, &mut rest),
-    ];
-    let [p_hash, newer, older] = &texts;
+fn ends_in_the_mac(side: &str, alg: Alg, keys: (Digest, Digest), mut rest: &str) -> bool {
+    let (session_key, auth) = keys;
+    let (p_hash, newer, older) = (digest(&mut rest), digest(&mut rest), digest(&mut rest));
     let (p_hash, newer, older) = (p_hash.as_slice(), newer.as_slice(), older.as_slice());
-    let attrs = u8::from_str_radix(word(&mut rest), 16).unwrap_or(0xFF);
-    let attrs = SessionAttrs::from_number(attrs).unwrap_or_default();
-    let (key, auth) = (session_key.as_slice(), auth_value.as_slice());
+    let attrs = next_value::<SessionAttrs>(&mut rest).unwrap_or_default();
+    let (key, auth) = (session_key.as_slice(), auth.as_slice());
     let mac = if side == "response" {
         response_mac(alg, key, auth, p_hash, newer, older, attrs)
     } else {
@@ -87,29 +80,29 @@ fn ends_in_the_mac(rt: &impl Abort, side: &str, alg: Alg, keys: [Digest; 2], res
     let mut kept = SessionKey::new(alg, session_key);
     kept.keep();
     let kept_mac = kept.session_mac(auth, p_hash, newer, older, attrs);
-    let expected = digest(rt, &mut rest);
-    mac.as_slice() == expected.as_slice() && kept_mac.as_slice() == expected.as_slice()
+    let expected = digest(&mut rest);
+    mac == expected && kept_mac == expected
 }
 
 /// Whether the hash and the MAC of a line are so.
-pub fn is_authentic(rt: &impl Abort, line: &str) -> bool {
-    let mut rest = line;
+pub fn is_authentic(mut rest: &str) -> bool {
     let side = word(&mut rest);
-    let alg = alg(rt, word(&mut rest));
-    let keys = [digest(rt, &mut rest), digest(rt, &mut rest)];
-    let is_hashed = match CommandCode::from_number(number(rt, word(&mut rest))) {
+    let alg = next_value::<Alg>(&mut rest).unwrap_or_default();
+    let keys = (digest(&mut rest), digest(&mut rest));
+    let code = next_number(&mut rest);
+    let is_hashed = match CommandCode::from_number(code) {
         Some(code) => {
-            let hashed = p_hash(rt, side, alg, code, &mut rest);
+            let hashed = p_hash(side, alg, code, &mut rest);
             let mut next = rest;
-            hashed.as_slice() == bytes(rt, word(&mut next)).as_slice()
+            hashed == digest(&mut next)
         }
         None => {
             let _names = word(&mut rest);
             let _params = word(&mut rest);
-            line.contains(" 00000129 ")
+            code == 0x129
         }
     };
-    is_hashed && ends_in_the_mac(rt, side, alg, keys, rest)
+    is_hashed && ends_in_the_mac(side, alg, keys, rest)
 }
 
 #[test]

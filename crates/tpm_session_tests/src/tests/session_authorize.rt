@@ -2,18 +2,17 @@
 //! of Python's hmac module over the texts of Part 1, "HMAC Computation". A script's line is told in
 //! `session_scripts`.
 
-use crate::tests::session_calls::{OWNER, session};
+use crate::tests::hmac_macs::name;
+use crate::tests::session_calls::{OWNER, code, held};
 use crate::tests::session_scripts::{Bench, run};
-use crate::tests::session_texts::{bytes, number};
-use std::process::Abort;
 use std::test::*;
 use tpm_buffer::{Areas, areas};
 use tpm_session::{Answered, Claim, Entity, NONCE_BYTES};
-use tpm_testing::word;
+use tpm_testing::{next_bytes, next_number, spelled, word};
 use tpm_types::Name;
 
 // For the session of a reply: 40 to 4f, as long as the session's nonces, and zeros.
-const NEXT: [u8; NONCE_BYTES] = [
+static NEXT: [u8; NONCE_BYTES] = [
     0x40, 0x41, 0x42, 0x43, 0x44, 0x45, 0x46, 0x47, 0x48, 0x49, 0x4A, 0x4B, 0x4C, 0x4D, 0x4E, 0x4F,
     0, 0, 0, 0, 0, 0, 0, 0, 0, 0, 0, 0, 0, 0, 0, 0, 0, 0, 0, 0, 0, 0, 0, 0, 0, 0, 0, 0, 0, 0, 0, 0,
     0, 0, 0, 0, 0, 0, 0, 0, 0, 0, 0, 0, 0, 0, 0, 0,
@@ -30,70 +29,57 @@ fn entity<'a>(bench: &'a Bench, text: &str) -> Entity<'a> {
 }
 
 /// Whether these bytes follow the session key.
-pub fn follows(rt: &impl Abort, bench: &Bench, rest: &str) -> bool {
-    let mut rest = rest;
-    let session = session(rt, word(&mut rest));
-    let entity = entity(bench, word(&mut rest));
-    let expected = bytes(rt, rest);
-    match bench.sessions.get(session) {
-        Some(held) => held.follows(&entity) == expected.as_slice(),
+pub fn follows(bench: &Bench, mut rest: &str) -> bool {
+    match held(&bench.sessions, &mut rest) {
+        Some(session) => {
+            let entity = entity(bench, word(&mut rest));
+            session.follows(&entity) == spelled(rest).as_slice()
+        }
         None => false,
     }
 }
 
 // What the checks of the sessions of a command answer, 0 for a yes. Each handle has this Name, and
 // the update counter is 0.
-fn judged(bench: &Bench, entity: Entity<'_>, name: &[Name; 2], cut: &Areas<'_>) -> u32 {
+fn judged(bench: &Bench, entity: Entity<'_>, names: &[Name; 2], cut: &Areas<'_>) -> u32 {
     if cut.auth_count() == 0 {
         return u32::MAX;
     }
     let claim = Claim {
         entity,
         command: cut.code(),
-        names: &name[..cut.handles().len().min(2)],
+        names: &names[..cut.handles().len().min(2)],
         params: cut.params(),
         update_counter: 0,
     };
-    match bench.sessions.authorize(cut.auths(), &claim) {
-        Ok(()) => 0,
-        Err(code) => code,
-    }
-}
-
-fn name(rt: &impl Abort, text: &str) -> Name {
-    Name::new(bytes(rt, text).as_slice()).expect(rt, text)
+    code(bench.sessions.authorize(cut.auths(), &claim))
 }
 
 /// Whether the sessions of a command are answered with this code.
-pub fn answers(rt: &impl Abort, bench: &Bench, rest: &str) -> bool {
-    let mut rest = rest;
+pub fn answers(bench: &Bench, mut rest: &str) -> bool {
     let entity = entity(bench, word(&mut rest));
     let handle = word(&mut rest);
-    let names = [name(rt, handle), name(rt, handle)];
-    let code = number(rt, word(&mut rest));
-    let bytes = bytes(rt, rest);
-    match areas(bytes.as_slice()) {
-        Ok(cut) => judged(bench, entity, &names, &cut) == code,
+    let code = next_number(&mut rest);
+    match areas(spelled(rest).as_slice()) {
+        Ok(cut) => judged(bench, entity, &[name(handle), name(handle)], &cut) == code,
         Err(_) => false,
     }
 }
 
 /// Whether the session of the reply with these parameters has this nonce, these attributes and this HMAC.
-pub fn replies(rt: &impl Abort, bench: &Bench, rest: &str) -> bool {
-    let mut rest = rest;
+pub fn replies(bench: &Bench, mut rest: &str) -> bool {
     let entity = entity(bench, word(&mut rest));
-    let params = bytes(rt, word(&mut rest));
-    let nonce = bytes(rt, word(&mut rest));
-    let attrs = number(rt, word(&mut rest));
-    let hmac = bytes(rt, word(&mut rest));
-    let command = bytes(rt, rest);
-    let cut = areas(command.as_slice()).ok().expect(rt, "areas");
-    let how = bench
-        .sessions
-        .authorization(cut.auths())
-        .ok()
-        .expect(rt, "loaded")
-        .expect(rt, "a session");
+    let params = next_bytes(&mut rest);
+    let nonce = next_bytes(&mut rest);
+    let attrs = next_number(&mut rest);
+    let hmac = next_bytes(&mut rest);
+    let command = spelled(rest);
+    let Ok(cut) = areas(command.as_slice()) else {
+        return false;
+    };
+    let Ok(Some(how)) = bench.sessions.authorization(cut.auths()) else {
+        return false;
+    };
     let answered = Answered {
         command: cut.code(),
         params: params.as_slice(),

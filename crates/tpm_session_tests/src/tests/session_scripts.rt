@@ -3,10 +3,9 @@
 //! Each line is a word and what it is about; one that begins with `#` says what the next are about.
 //! Numbers and bytes are hexadecimal, and `-` is no byte.
 //!
-//! - `new`: from here on, sessions and registers as they are at first.
-//! - `command CODE BYTES`: this command on sessions is answered with this code, 0 where it is done.
+//! - `new`: from here on, sessions and registers as they are at first; `begin`: and the policy session of the run.
+//! - `command CODE BYTES`: this command on sessions or registers is answered with this code, 0 where it is done.
 //! - `started HANDLE BYTES`: this TPM2_StartAuthSession is answered with this handle.
-//! - `extend BYTES`: the registers after this TPM2_PCR_Extend.
 //! - `kept HANDLE` and `ended HANDLE`: after a command that the session authorized, with
 //!   continueSession and without. The next nonce is made of zeros.
 //! - `loaded HANDLE` and `absent HANDLE`: whether there is such a session.
@@ -25,72 +24,71 @@
 //! - `hash HASH MESSAGE DIGEST`, `hmac HASH KEY TEXT MAC` and
 //!   `kdfa HASH KEY LABEL CONTEXT_U CONTEXT_V DERIVED`: hashes, HMACs and derived keys.
 //! - `mac SIDE ..`: the MAC of a command or a response, as `hmac_macs` tells.
-//! - `refused CODE POSITION BYTES`: these bytes are no NV memory, with this fault.
+//!
+//! `pcr_values` tells the lines on registers, and `nv_values` those on counters.
 
 use crate::tests::hmac_hashes::is_hashed;
 use crate::tests::hmac_macs::is_authentic;
-use crate::tests::nv_kept::is_refused;
+use crate::tests::nv_values::are_counters;
+use crate::tests::pcr_values::are_registers;
 use crate::tests::session_authorize::{answers, follows, replies};
 use crate::tests::session_calls::{
-    answer, extend, has_digest, has_key, has_no_digest, has_nonce, is_started, rolls, session,
+    answer, has_digest, has_key, has_no_digest, has_nonce, held, is_started, rolls,
 };
-use crate::tests::session_texts::{bytes, number};
 use std::process::Abort;
 use std::test::*;
-use tpm_nv::{COUNTER_BYTES, Definition};
+use tpm_nv::{COUNTER_BYTES, Counters, Definition};
 use tpm_pcr::Registers;
 use tpm_session::Sessions;
-use tpm_testing::word;
+use tpm_testing::{next_bytes, next_number, spelled, word};
 use tpm_types::{DIGEST_BYTES, NvPublic};
-use tpm_wire::{Cursor, Wire};
+use tpm_wire::take_whole;
 
-/// Sessions, registers, and what an index is defined with.
+/// Sessions, registers and counters, what an index is defined with, and how a policy session is started.
 #[derive(Drop)]
 pub struct Bench {
     pub sessions: Sessions,
     pub registers: Registers,
+    pub counters: Counters,
     pub index: Option<Definition>,
-}
-
-impl Bench {
-    /// Nothing has been done.
-    pub fn new() -> Self {
-        Bench {
-            sessions: Sessions::new(),
-            registers: Registers::new(),
-            index: None,
-        }
-    }
-
-    /// Goes through a script.
-    pub fn goes_through(&mut self, rt: &impl Abort, script: &str) {
-        for line in script.lines() {
-            let line = line.trim();
-            if !line.is_empty() && !line.starts_with('#') {
-                assert!(rt; step(rt, self, line), "{line}");
-            }
-        }
-    }
+    pub policy: &'static str,
 }
 
 /// Goes through a script.
 pub fn run(rt: &impl Abort, script: &str) {
-    Bench::new().goes_through(rt, script);
+    run_of(rt, "", script);
 }
 
-// What an index is defined with, by its TPM2B_NV_PUBLIC and its authorization value; none where it is not that of a
+/// Goes through a script whose policy session is started by this TPM2_StartAuthSession.
+pub fn run_of(rt: &impl Abort, policy: &'static str, script: &str) {
+    let mut bench = Bench {
+        sessions: Sessions::new(),
+        registers: Registers::new(),
+        counters: Counters::new(0),
+        index: None,
+        policy,
+    };
+    for line in script.lines() {
+        let line = line.trim();
+        let is_said = line.is_empty() || line.starts_with('#');
+        assert!(rt; is_said || step(&mut bench, line), "{line}");
+    }
+}
+
+// What an index is defined with, by its authorization value and its TPM2B_NV_PUBLIC; none where it is not that of a
 // counter.
-fn definition(public: &[u8], auth: &[u8]) -> Option<Definition> {
-    match NvPublic::take(&mut Cursor::of_whole(public)) {
+fn definition(mut rest: &str) -> Option<Definition> {
+    let auth = next_bytes(&mut rest);
+    match take_whole::<NvPublic>(spelled(rest).as_slice()) {
         Ok(public) if public.data_size as usize == COUNTER_BYTES && auth.len() <= DIGEST_BYTES => {
-            Some(Definition::new(&public, auth))
+            Some(Definition::new(&public, auth.as_slice()))
         }
         _ => None,
     }
 }
 
 // Does what the line says, and answers whether all of it is so.
-fn step(rt: &impl Abort, bench: &mut Bench, line: &str) -> bool {
+fn step(bench: &mut Bench, line: &str) -> bool {
     let mut rest = line;
     match word(&mut rest) {
         "new" => {
@@ -98,41 +96,40 @@ fn step(rt: &impl Abort, bench: &mut Bench, line: &str) -> bool {
             bench.registers = Registers::new();
             true
         }
-        "command" => {
-            let code = number(rt, word(&mut rest));
-            answer(rt, &mut bench.sessions, &bench.registers, rest) == code
+        "begin" => {
+            bench.sessions = Sessions::new();
+            let policy = bench.policy;
+            answer(bench, policy) == 0
         }
-        "started" => {
-            let handle = number(rt, word(&mut rest));
-            is_started(rt, &mut bench.sessions, handle, rest)
-        }
-        "extend" => extend(rt, &mut bench.registers, rest),
-        "kept" => rolls(&mut bench.sessions, session(rt, rest), true),
-        "ended" => rolls(&mut bench.sessions, session(rt, rest), false),
+        "command" => next_number(&mut rest) == answer(bench, rest),
+        "started" => is_started(&mut bench.sessions, next_number(&mut rest), rest),
+        "kept" => rolls(&mut bench.sessions, next_number(&mut rest), true),
+        "ended" => rolls(&mut bench.sessions, next_number(&mut rest), false),
         "index" => {
-            let auth = bytes(rt, word(&mut rest));
-            let public = bytes(rt, rest);
-            bench.index = definition(public.as_slice(), auth.as_slice());
+            bench.index = definition(rest);
             bench.index.is_some()
         }
-        asked => is_so(rt, bench, asked, rest),
+        asked => is_so(bench, asked, rest),
     }
 }
 
 // Whether what the line says of the sessions is so.
-fn is_so(rt: &impl Abort, bench: &Bench, asked: &str, rest: &str) -> bool {
+fn is_so(bench: &mut Bench, asked: &str, mut rest: &str) -> bool {
     match asked {
-        "loaded" => bench.sessions.get(session(rt, rest)).is_some(),
-        "absent" => bench.sessions.get(session(rt, rest)).is_none(),
-        "nonce" => has_nonce(rt, &bench.sessions, rest),
-        "key" => has_key(rt, &bench.sessions, rest),
-        "digest" => has_digest(rt, &bench.sessions, rest),
-        "no-digest" => has_no_digest(rt, &bench.sessions, rest),
-        "follows" => follows(rt, bench, rest),
-        "authorize" => answers(rt, bench, rest),
-        "reply" => replies(rt, bench, rest),
-        "refused" => is_refused(rt, rest),
-        "mac" => is_authentic(rt, rest),
-        _ => is_hashed(rt, asked, rest),
+        "loaded" => held(&bench.sessions, &mut rest).is_some(),
+        "absent" => held(&bench.sessions, &mut rest).is_none(),
+        "nonce" => has_nonce(&bench.sessions, rest),
+        "key" => has_key(&bench.sessions, rest),
+        "digest" => has_digest(&bench.sessions, rest),
+        "no-digest" => has_no_digest(&bench.sessions, rest),
+        "follows" => follows(bench, rest),
+        "authorize" => answers(bench, rest),
+        "reply" => replies(bench, rest),
+        "mac" => is_authentic(rest),
+        _ => {
+            are_registers(&mut bench.registers, asked, rest)
+                || are_counters(&mut bench.counters, asked, rest)
+                || is_hashed(asked, rest)
+        }
     }
 }

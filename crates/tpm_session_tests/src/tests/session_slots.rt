@@ -3,6 +3,7 @@
 use crate::tests::session_scripts::run;
 use std::mem::size_of;
 use std::test::*;
+use tpm_nv::Counter;
 use tpm_session::Sessions;
 
 #[test]
@@ -68,8 +69,9 @@ fn sessions_are_started_with_nonces_and_keys_flushed_once_and_go_on_or_end(rt: H
     );
 }
 
-// Three sessions, all of them in place.
+// Three sessions, all of them in place. The public area of a counter is kept without what all have in common, and each
+// digest with its length in one byte.
 #[test]
-fn sessions_take_800_bytes(rt: HostRuntime) {
-    assert!(rt; size_of::<Sessions>() == 800);
+fn sessions_take_800_bytes_and_a_counter_116(rt: HostRuntime) {
+    assert!(rt; (size_of::<Sessions>(), size_of::<Counter>()) == (800, 116));
 }
