@@ -1,9 +1,7 @@
 //! Callers alone, and with a device.
 
 mod caller_both_ends;
-mod caller_commands;
-mod caller_plain;
-mod caller_replies;
-mod caller_sessions;
-mod caller_tpm;
+mod caller_ends;
+mod caller_scripts;
+mod caller_sealed;
 mod device_kept;
