@@ -9,13 +9,14 @@
 //! - `opens kept`, `opens ended` and `opens FAULT`: what the answer is opened as, by what is left of the session.
 //! - `gives-up`: the answer is a refusal that gives the caller back, and `keeps`: it is none.
 
-use crate::tests::caller_scripts::OWNER;
+use crate::tests::hmac_macs::name;
+use crate::tests::session_calls::OWNER;
 use tpm_buffer::{decode_command, decode_response};
 use tpm_caller::{Caller, CallerFault, Pending, Plain};
-use tpm_commands::{CommandBody, CommandTable, ReplyBody, Response};
+use tpm_commands::{CommandBody, CommandTable, ReplyBody, Response, StartAuth};
 use tpm_device::{Device, ResponseBuffer};
 use tpm_testing::{next_bytes, next_number, spelled, word};
-use tpm_types::{CommandCode, Name, Nonce};
+use tpm_types::{CommandCode, Nonce};
 use tpm_wire::Buffer;
 
 // The room before a command is sealed into it.
@@ -33,20 +34,20 @@ pub struct End {
 pub fn started(command: &[u8], reply: &[u8]) -> Option<Caller> {
     let reply = decode_response(CommandCode::StartAuthSession, reply);
     match (decode_command(command), reply) {
-        (Ok(command), Ok(reply)) => caller_of(&command.body, &reply),
+        (Ok(command), Ok(reply)) => match &command.body {
+            CommandBody::StartAuthSession(start) => caller_of(start, &reply),
+            _ => None,
+        },
         _ => None,
     }
 }
 
-fn caller_of(asked: &CommandBody<'_>, reply: &Response) -> Option<Caller> {
-    match (asked, reply) {
-        (
-            CommandBody::StartAuthSession(start),
-            Response::Done {
-                body: ReplyBody::StartAuthSession(reply),
-                ..
-            },
-        ) => Caller::start(start, reply, OWNER),
+fn caller_of(start: &StartAuth, reply: &Response) -> Option<Caller> {
+    match reply {
+        Response::Done {
+            body: ReplyBody::StartAuthSession(reply),
+            ..
+        } => Caller::start(start, reply, OWNER),
         _ => None,
     }
 }
@@ -139,10 +140,7 @@ impl End {
     // Whether a command is sealed, behind which nothing of the room has changed.
     fn seals(&mut self, mut rest: &str) -> bool {
         let nonce = Nonce::new(next_bytes(&mut rest).as_slice()).unwrap_or_default();
-        let names = [
-            Name::new(next_bytes(&mut rest).as_slice()).unwrap_or_default(),
-            Name::new(next_bytes(&mut rest).as_slice()).unwrap_or_default(),
-        ];
+        let names = [name(word(&mut rest)), name(word(&mut rest))];
         let auth = next_bytes(&mut rest);
         let keep = word(&mut rest) == "keep";
         let command = spelled(rest);

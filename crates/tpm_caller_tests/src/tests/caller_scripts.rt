@@ -13,21 +13,19 @@
 
 use crate::tests::caller_ends::End;
 use crate::tests::device_kept::is_asked;
+use crate::tests::session_calls::OWNER;
 use std::process::Abort;
 use std::test::*;
 use tpm_device::{Device, ResponseBuffer};
 use tpm_testing::{next_bytes, next_value, spelled, word};
 use tpm_types::AuthValue;
 
-/// The owner's authorization value, with a zero that is no part of it.
-pub const OWNER: &[u8] = b"owner\0";
-
 // TPM2_Startup with TPM_SU_CLEAR.
 static STARTUP: [u8; 12] = [
     0x80, 0x01, 0x00, 0x00, 0x00, 0x0C, 0x00, 0x00, 0x01, 0x44, 0x00, 0x00,
 ];
 
-/// What `OWNER` is to a device.
+/// The owner's authorization value.
 pub fn owner() -> AuthValue {
     AuthValue::new(OWNER).unwrap_or_default()
 }

@@ -8,9 +8,9 @@ use crate::tests::caller_ends::started;
 use crate::tests::caller_scripts::run;
 use arrayvec::ArrayVec;
 use std::test::*;
-use tpm_commands::CommandBody;
-use tpm_testing::{next_bytes, spelled};
-use tpm_types::{Nonce, PcrIndex, name_of_handle};
+use tpm_commands::{CommandBody, Event};
+use tpm_testing::next_bytes;
+use tpm_types::{Nonce, PcrIndex, PcrOrNull, name_of_handle};
 
 #[test]
 fn commands_are_sealed_and_replies_opened_as_python_does(rt: HostRuntime) {
@@ -92,30 +92,31 @@ fn commands_are_sealed_and_replies_opened_as_python_does(rt: HostRuntime) {
     );
 }
 
-// The session, TPM2_PCR_Reset of register 16 in it under seventy bytes 61, and a refusal.
-const RESET: &str =
-    "80010000002b00000176400000074000000100100000000000000000000000000000000000000000100004 8001000000200000000002000002001000000000000000000000000000000007 80020000003f0000013d000000100000002d02000002001022222222222222222222222222222222010014de77263757b4310213c568396f6ce73f9ae0e54e 80010000000a000009a2";
+// The session of SHA-1, TPM2_PCR_Event of register 0 in it, and a refusal.
+const EVENT: &str =
+    "80010000002b00000176400000074000000100100000000000000000000000000000000000000000100004 8001000000200000000002000002001000000000000000000000000000000007 8002000000450000013c000000000000002d020000020010222222222222222222222222222222220100143f03f49eaac4f6f2dff77ce7b5696b961b51fde2000400000000 80010000000a000009a2";
 
 #[test]
 fn a_waiting_is_opened_or_given_up(rt: HostRuntime) {
-    let mut texts = RESET;
+    let mut texts = EVENT;
     let start = next_bytes(&mut texts);
     let reply = next_bytes(&mut texts);
     let expected = next_bytes(&mut texts);
-    let refusal = next_bytes(&mut texts);
     let caller = started(start.as_slice(), reply.as_slice()).expect(&rt, "a caller");
     let mut names = ArrayVec::new();
-    names.push(name_of_handle(16));
+    names.push(name_of_handle(0));
     let waiting = caller.seal(
-        CommandBody::PcrReset {
-            register: PcrIndex::from_number(16).expect(&rt, "a register"),
+        CommandBody::PcrEvent {
+            register: PcrOrNull::Pcr(PcrIndex::default()),
+            event: Event::new(&[0; 4]).expect(&rt, "an event"),
         },
         names,
-        &[b'a'; 70],
-        Nonce::new(spelled("22222222222222222222222222222222").as_slice()).unwrap_or_default(),
+        &[],
+        Nonce::new(&[0x22; 16]).unwrap_or_default(),
         true,
     );
     assert!(rt; waiting.bytes() == expected.as_slice());
+    let refusal = next_bytes(&mut texts);
     match waiting.open(refusal.as_slice()) {
         Ok(_) => panic!(rt; "opened"),
         Err(unopened) => {
