@@ -129,7 +129,7 @@ def crate_numbers():
         | arms("tpm_types", "alg", "Alg", "TPM_ALG_")
         | only(constants("tpm_types", "tpmt", "TPM_ALG_"), "TPM_ALG_AES", "TPM_ALG_XOR", "TPM_ALG_NULL", "TPM_ALG_CFB")
         | only(constants("tpm_types", "handles", "TPM_"), "TPM_RH_OWNER", "TPM_RH_NULL", "TPM_RS_PW")
-        | only(constants("tpm_buffer", "command_parts", "TPM_ST_"), "TPM_ST_NO_SESSIONS", "TPM_ST_SESSIONS")
+        | only(constants("tpm_buffer", "command_areas", "TPM_ST_"), "TPM_ST_NO_SESSIONS", "TPM_ST_SESSIONS")
         | arms("tpm_types", "constants", "StartupType", "TPM_SU_")
         | arms("tpm_types", "constants", "SessionType", "TPM_SE_")
         | constants("tpm_wire", "response_code", "TPM_RC_")

@@ -1,23 +1,101 @@
-//! A command cut where its checks begin: the header, the handles, the sessions, and the parameters as they came.
+//! A command cut where its checks begin: the header, the handles, the sessions, and the parameters as they came
+//! (Part 1, "Command/Response Structure").
 
-ghost use Rattle.std.specs.Prelude.{◌≡◌, ◌≤◌, ◌<◌, IfOk, IfErr, OnOk, Ok, Err, length, slice_get};
+ghost use Rattle.std.specs.Prelude.{◌≡◌, ◌≤◌, ◌<◌, IfOk, IfErr, OnOk, Ok, Err, length, slice_get, ◌+◌, ◌++◌, true};
 ghost use Rattle.tpm_wire.specs.Token.{at_start};
 ghost use Rattle.tpm_wire.specs.Layout.{cut};
 ghost use Rattle.tpm_wire.specs.Reading.{read, Gives};
-ghost use Rattle.tpm_wire.specs.Buffers.{TakesNumbered};
+ghost use Rattle.tpm_wire.specs.Buffers.{TakesNumbered, Takes};
 ghost use Rattle.tpm_wire.specs.Path.{Decodes};
-ghost use Rattle.tpm_buffer.specs.Commands.{header as header_layout, before_params};
-ghost use Rattle.tpm_buffer.specs.CommandAreas.{head_and_rest, IsHandled, HasHandles, checked};
-ghost use Rattle.tpm_buffer.specs.inner.CommandAreas.{areas_view};
-ghost use Rattle.tpm_buffer.specs.CommandAreas.{IsAreas, HasAreas, IsSpelledBy};
-ghost use Rattle.tpm_buffer.specs.inner.CommandAreas.{cut_of};
+ghost use Rattle.tpm_buffer.specs.Commands.{header as header_layout, before_params, is_tag, tag, command_size};
+ghost use Rattle.tpm_buffer.specs.CommandAreas.{head_and_rest, IsHandled, HasHandles, checked, IsAreas, HasAreas};
+ghost use Rattle.tpm_buffer.specs.CommandAreas.{IsSpelledBy};
+ghost use Rattle.tpm_buffer.specs.inner.CommandAreas.{areas_view, cut_of};
+ghost use Rattle.tpm_wire.specs.Spelling.{spelling};
+ghost use Rattle.tpm_types.specs.CommandCodes.{command_code};
+ghost use Rattle.tpm_buffer.specs.Parts.{tag_for};
 
-use crate::command_parts::{AuthRef, NO_SESSIONS, long_fault, read_authorization, take_header};
+use crate::sessions::{AuthRef, read_authorization};
 use arrayvec::ArrayVec;
 use std::marker::Model;
 use tpm_commands::{Header, take_handles};
 use tpm_types::{Auth, CommandCode};
-use tpm_wire::{Cursor, Refusal};
+use tpm_wire::response_code::{BAD_TAG, COMMAND_CODE, COMMAND_SIZE};
+use tpm_wire::{Cursor, Refusal, Wire};
+
+/// The tag of a buffer without sessions, TPM_ST_NO_SESSIONS.
+pub const NO_SESSIONS: u16 = 0x8001;
+
+/// The tag of a buffer with sessions, TPM_ST_SESSIONS.
+pub const SESSIONS: u16 = 0x8002;
+
+/// The tag of a buffer with these sessions, or without where there are none.
+pub fn tag_for<T>(sessions: &[T]) -> u16
+    ensures { result ≡ tag_for sessions.now }
+{
+    if sessions.is_empty() {
+        NO_SESSIONS
+    } else {
+        SESSIONS
+    }
+}
+
+#[tactic(auto, unfolding(crate::specs::Commands::command_size))]
+pub(crate) fn take_size(cursor: &mut Cursor<'_>) -> Result<u32, Refusal>
+    ensures reads { Takes command_size cursor.old cursor.new result }
+    ensures spelled { IfOk result
+        (λ x. cursor.old.here.rest ≡ spelling command_size x ++ cursor.new.here.rest) }
+    ensures size { IfOk result (λ x. x ≡ length cursor.old.here.rest + 2) }
+    ensures four { IfOk result
+        (λ x. length cursor.old.here.rest ≡ 4 + length cursor.new.here.rest) }
+{
+    let refusal = cursor.refusal(COMMAND_SIZE);
+    let size = u32::take(cursor)?;
+    if size < 10 || size > 4096 || size as usize - 6 != cursor.left() {
+        return Err(refusal);
+    }
+    Ok(size)
+}
+
+#[tactic(auto, unfolding(crate::specs::Commands::header, crate::specs::Commands::tag, tpm_types::specs::CommandCodes::command_code))]
+#[inline(always)]
+fn take_header(cursor: &mut Cursor<'_>) -> Result<Header, Refusal>
+    requires { cursor.old.number ≡ 0 }
+    ensures reads { TakesNumbered (λ h. h) header_layout cursor.old cursor.new result }
+    ensures spelled { IfOk result
+        (λ x. cursor.old.here.rest ≡ spelling header_layout x ++ cursor.new.here.rest) }
+    ensures tag { IfOk result (λ x. is_tag x.tag ≡ true) }
+    ensures size { IfOk result (λ x. x.size ≡ length cursor.old.here.rest) }
+{
+    let bad_tag = cursor.refusal(BAD_TAG);
+    let tag = u16::take(cursor)?;
+    if tag != NO_SESSIONS && tag != SESSIONS {
+        return Err(bad_tag);
+    }
+    let size = take_size(cursor)?;
+    let unknown = cursor.refusal(COMMAND_CODE);
+    let code = CommandCode::from_number(u32::take(cursor)?).ok_or(unknown)?;
+    Ok(Header { tag, size, code })
+}
+
+// No buffer has so many bytes, so the tag is refused or else the size.
+#[tactic(auto, unfolding(crate::specs::Commands::header, crate::specs::Commands::tag, crate::specs::Commands::command_size))]
+pub(crate) fn long_fault(bytes: &[u8]) -> Refusal
+    requires { 4096 < length bytes.now }
+    ensures { read 0 header_layout (at_start bytes.now) ≡ Err result }
+{
+    let tag = u16::from_be_bytes([bytes[0], bytes[1]]);
+    if tag != NO_SESSIONS && tag != SESSIONS {
+        return Refusal {
+            code: BAD_TAG,
+            at: 0,
+        };
+    }
+    Refusal {
+        code: COMMAND_SIZE,
+        at: 2,
+    }
+}
 
 /// A command whose header was read.
 #[derive(Drop)]
@@ -147,6 +225,7 @@ impl<'a> Handled<'a> {
         let mut cursor = self.cursor;
         areas.header = self.header;
         areas.handles = self.handles;
+        areas.auths.clear();
         read_authorization(&mut cursor, self.header.tag, &mut areas.auths)?;
         areas.params_at = cursor.at();
         areas.params = cursor.remaining();
@@ -263,6 +342,7 @@ pub(crate) fn read_before_params(
 {
     let header = take_header(cursor)?;
     let handles = take_handles(cursor, header.code)?;
+    auths.clear();
     read_authorization(cursor, header.tag, auths)?;
     Ok((header, handles))
 }

@@ -10,8 +10,7 @@ ghost use Rattle.tpm_commands.specs.declared.command.Command.{Command as Command
 ghost use Rattle.tpm_buffer.specs.Commands.{before_params, command};
 ghost use Rattle.tpm_buffer.specs.CommandAreas.{Cut, HasCut, IsSpelledBy};
 
-use crate::command_areas::{Areas, any_areas, read_before_params};
-use crate::command_parts::long_fault;
+use crate::command_areas::{Areas, any_areas, long_fault, read_before_params};
 use arrayvec::ArrayVec;
 use tpm_commands::{Command, CommandBody};
 use tpm_types::StartupType;

@@ -8,7 +8,7 @@ ghost use Rattle.tpm_commands.specs.Parameters.{parameters};
 ghost use Rattle.tpm_buffer.specs.Commands.{authorization, tag_of, code_for, handles_of, params_of, body_from, rest_of};
 ghost use Rattle.tpm_buffer.specs.Commands.{command as command_layout};
 
-use crate::command_parts::{NO_SESSIONS, SESSIONS};
+use crate::command_areas::{NO_SESSIONS, SESSIONS};
 use arrayvec::ArrayVec;
 use tpm_commands::{Command, CommandBody};
 use tpm_types::Auth;

@@ -3,7 +3,7 @@
 ghost use Rattle.std.specs.Prelude.{◌≡◌, ◌+◌, ◌<◌, ◌≤◌, ◌++◌, MatchOption, length};
 ghost use Rattle.tpm_buffer.specs.Parts.{authorization_of, joined};
 
-use crate::command_parts::tag_for;
+use crate::command_areas::tag_for;
 use std::marker::Model;
 use tpm_types::CommandCode;
 use tpm_wire::{Buffer, Wire, put_bytes};

@@ -5,25 +5,21 @@ mod command_areas;
 mod command_decode;
 mod command_encode;
 mod command_join;
-mod command_parts;
 mod laws;
 mod response_areas;
 mod response_decode;
 mod response_encode;
-mod response_header;
-mod response_sessions;
+mod sessions;
 
-pub use command_areas::{Areas, Handled, Headed, header};
+pub use command_areas::{Areas, Handled, Headed, NO_SESSIONS, SESSIONS, header, tag_for};
 pub use command_decode::{areas, decode_command, one_spelling};
 pub use command_encode::{encode_command, put_command};
 pub use command_join::{UnjoinedCommand, join_command};
-pub use command_parts::{AuthRef, NO_SESSIONS, SESSIONS, tag_for, take_authorization};
 pub use laws::{
     areas_of_a_response, command_or_fault, fault_before_params, no_prefix, no_response_prefix,
     parameters_in_command, response_or_fault,
 };
-pub use response_areas::{ReplyAreas, reply_areas};
+pub use response_areas::{RSP_COMMAND, ReplyAreas, reply_areas};
 pub use response_decode::decode_response;
 pub use response_encode::{encode_response, put_code, put_reply, put_reply_in, put_reply_params};
-pub use response_header::RSP_COMMAND;
-pub use response_sessions::{ReplyRef, take_parameter_size};
+pub use sessions::{AuthRef, ReplyRef, take_authorization, take_parameter_size};

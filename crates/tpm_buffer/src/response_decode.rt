@@ -10,13 +10,13 @@ ghost use Rattle.tpm_commands.specs.declared.response.Response.{Response as Resp
 ghost use Rattle.tpm_commands.specs.Replies.{reply_parameters, handle_list, HasHandle, IsReplyTo};
 ghost use Rattle.tpm_commands.specs.declared.response.Response.TheVariants as responses;
 ghost use Rattle.tpm_commands.specs.declared.command.ReplyBody.TheVariants as replies;
-ghost use Rattle.tpm_buffer.specs.Responses.{is_response_tag, goes_with, with_sessions, reply};
+ghost use Rattle.tpm_buffer.specs.Responses.{is_response_tag, goes_with, with_sessions, reply, tag_of_response};
+ghost use Rattle.tpm_buffer.specs.Responses.{code_of_response, behind_code, response};
 ghost use Rattle.tpm_buffer.specs.inner.Responses.{code_or_done};
-ghost use Rattle.tpm_buffer.specs.Responses.{tag_of_response, code_of_response, behind_code, response};
 
-use crate::command_parts::SESSIONS;
-use crate::response_header::{long_fault, take_code, take_front};
-use crate::response_sessions::{read_sessions, take_parameter_size};
+use crate::command_areas::SESSIONS;
+use crate::response_areas::{long_fault, take_code, take_front};
+use crate::sessions::{read_sessions, take_parameter_size};
 use arrayvec::ArrayVec;
 use tpm_commands::{ErrorCode, ReplyBody, Response, read_reply_params, take_reply_handle};
 use tpm_types::{AuthReply, CommandCode, Digests, Selections, SessionHandle};

@@ -11,8 +11,8 @@ ghost use Rattle.tpm_commands.specs.declared.response.Response.TheVariants as re
 ghost use Rattle.tpm_buffer.specs.Responses.{code_tag, reply_sessions, reply_tag, reply_behind, reply};
 ghost use Rattle.tpm_buffer.specs.Responses.{response as response_layout, RespondsTo};
 
-use crate::command_parts::{NO_SESSIONS, tag_for};
-use crate::response_header::RSP_COMMAND;
+use crate::command_areas::{NO_SESSIONS, tag_for};
+use crate::response_areas::RSP_COMMAND;
 use arrayvec::ArrayVec;
 use tpm_commands::{ErrorCode, ReplyBody, Response};
 use tpm_types::AuthReply;

@@ -22,10 +22,9 @@ use crate::command_handles::{
     policy_in, register_in, second_handle, two_handles,
 };
 use crate::commands::{
-    NvDefineSpace, NvRead, PolicyPcr, StartParams, nv, pcr, read_only, session, take_event,
+    Event, NvDefineSpace, NvRead, PolicyPcr, StartParams, nv, pcr, read_only, session, take_event,
     take_only, take_startup, two_digests,
 };
-use crate::lent::Event;
 use crate::response::{NvData, StartReply};
 use arrayvec::ArrayVec;
 use tpm_types::{
@@ -383,7 +382,7 @@ impl<'a> CommandBody<'a> {
         }
     }
 
-    // The same of TPM2_PCR_Extend.
+    // Makes it a TPM2_PCR_Extend whose digests are read.
     #[tactic(auto, unfolding(crate::specs::Commands::Pcr::pcr_extend))]
     #[inline(never)]
     fn read_extend(&mut self, cursor: &mut Cursor<'a>, register: PcrOrNull) -> Result<(), Refusal>
@@ -540,7 +539,7 @@ impl<'a> Params<'a> {
         }
     }
 
-    // The same of TPM2_PCR_Extend.
+    // Makes them the digests of TPM2_PCR_Extend that are read.
     #[tactic(auto, unfolding(crate::specs::Commands::Pcr::pcr_extend))]
     #[inline(never)]
     fn read_extend(&mut self, cursor: &mut Cursor<'a>) -> Result<(), Refusal>

@@ -158,7 +158,7 @@ pub fn take_handles(cursor: &mut Cursor<'_>, code: CommandCode) -> Result<ArrayV
         ≡ spelling (handles_layout code) x.items ++ cursor.new.here.rest) }
     ensures admitted { IfOk result (λ x. AreAdmitted (handle_kinds_of code) x.items) }
 {
-    match handle_kinds(code) {
+    match row_of(code).handles {
         [] => Ok(ArrayVec::new()),
         [only] => Ok(one_handle(only.take(cursor, 1)?)),
         [one, two, ..] => {
@@ -167,13 +167,6 @@ pub fn take_handles(cursor: &mut Cursor<'_>, code: CommandCode) -> Result<ArrayV
             Ok(two_handles(first, second))
         }
     }
-}
-
-fn handle_kinds(code: CommandCode) -> &'static [HandleKind]
-    ensures value { result.now ≡ handle_kinds_of code }
-    ensures few { length result.now ≤ 2 }
-{
-    row_of(code).handles
 }
 
 /// What the table of commands says of a command (Part 3, the command table of each).
@@ -190,7 +183,7 @@ impl CommandTable for CommandCode {
         ensures value { result ≡ length (handle_kinds_of self) }
         ensures fits { result ≤ 2 }
     {
-        handle_kinds(self).len()
+        row_of(self).handles.len()
     }
 
     fn needs_authorization(self) -> bool

@@ -13,9 +13,8 @@ mod policy;
 pub(crate) mod session;
 mod startup;
 
-use crate::lent::Event;
 pub use nv::{NvDefineSpace, NvRead};
-pub use pcr::read_pcr_extend;
+pub use pcr::{EVENT_BYTES, Event, read_pcr_extend};
 pub use policy::PolicyPcr;
 pub use session::StartParams;
 pub use startup::take_startup;

@@ -6,7 +6,6 @@ mod command;
 mod command_handles;
 mod command_parameters;
 mod commands;
-mod lent;
 mod response;
 
 pub use command::{
@@ -18,6 +17,8 @@ pub use command_handles::{
     register_in, second_handle, take_handles,
 };
 pub use command_parameters::{decode_params, decode_params_into, decode_start_into};
-pub use commands::{NvDefineSpace, NvRead, PolicyPcr, StartParams, read_pcr_extend, take_startup};
-pub use lent::{EVENT_BYTES, Event, take_sized};
+pub use commands::{
+    EVENT_BYTES, Event, NvDefineSpace, NvRead, PolicyPcr, StartParams, read_pcr_extend,
+    take_startup,
+};
 pub use response::{ErrorCode, NvData, Response, StartReply};

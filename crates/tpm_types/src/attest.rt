@@ -5,8 +5,7 @@ ghost use Rattle.tpm_wire.specs.Buffers.{Takes};
 ghost use Rattle.tpm_wire.specs.Spelling.{spelling, Fits};
 ghost use Rattle.tpm_types.specs.Attest.{yes_no};
 
-use crate::lent::Lent;
-use crate::tpm2b::Digest;
+use crate::tpm2b::{Digest, Lent};
 use crate::tpml::Selections;
 use tpm_wire::response_code::VALUE;
 use tpm_wire::{Cursor, Refusal, Room, Wire};

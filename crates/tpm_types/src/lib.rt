@@ -8,9 +8,7 @@ mod constants;
 mod handle_sets;
 mod handles;
 mod laws;
-mod lent;
 mod limits;
-mod packed;
 mod tpm2b;
 mod tpma;
 mod tpml;
@@ -28,10 +26,8 @@ pub use handles::{
     register,
 };
 pub use laws::{same_limits, same_lists};
-pub use lent::Lent;
 pub use limits::{BANKS, BLOCK_BYTES, DIGEST_BYTES, NAME_BYTES, PUBLIC_BYTES};
-pub use packed::Packed;
-pub use tpm2b::{AuthValue, Digest, EncryptedSalt, Name, Nonce, name_of_handle};
+pub use tpm2b::{AuthValue, Digest, EncryptedSalt, Lent, Name, Nonce, Packed, name_of_handle};
 pub use tpma::{NvAttrs, SessionAttrs};
 pub use tpml::{DigestValues, Digests, MOST_DIGESTS, OrDigests, Selections};
 pub use tpms::{Auth, AuthReply, NvPublic, SELECT_BYTES, Selection};

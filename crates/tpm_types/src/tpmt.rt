@@ -43,16 +43,6 @@ impl HashedDigest {
         Some(HashedDigest { hash, bytes })
     }
 
-    // Makes it this digest under its hash.
-    #[inline(always)]
-    fn set(&mut self, hash: Alg, digest: &[u8])
-        requires { length digest.now ≡ digest_len hash }
-        ensures { self.new ≡ (hash, digest.now) }
-    {
-        self.hash = hash;
-        self.bytes[..digest.len()].copy_from_slice(digest);
-    }
-
     /// The hash.
     pub fn hash(&self) -> Alg
         ensures { result ≡ self.now.0 }
@@ -129,7 +119,8 @@ impl Wire for HashedDigest {
         let len = hash.digest_len();
         match cursor.front(len) {
             Some(digest) => {
-                self.set(hash, digest);
+                self.hash = hash;
+                self.bytes[..len].copy_from_slice(digest);
                 Ok(())
             }
             None => Err(cursor.refusal(INSUFFICIENT)),

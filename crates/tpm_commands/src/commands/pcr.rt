@@ -12,7 +12,7 @@ ghost use Rattle.tpm_commands.specs.Replies.{code_for_reply, IsReplyTo};
 
 use crate::command::ReplyBody;
 use crate::commands::{read_only, read_parameter};
-use tpm_types::{DigestValues, Digests, Selections};
+use tpm_types::{DigestValues, Digests, Lent, Selections};
 use tpm_wire::{Cursor, Refusal, Room, Wire};
 
 // ---- TPM2_PCR_Extend (22.2)
@@ -31,6 +31,12 @@ pub fn read_pcr_extend(cursor: &mut Cursor<'_>, digests: &mut DigestValues) -> R
 }
 
 // ---- TPM2_PCR_Event (22.3)
+
+/// How many bytes an event has at most.
+pub const EVENT_BYTES: usize = 1024;
+
+/// What PCR_Event measures, lent from where its bytes are: TPM2B_EVENT, 0 to 1,024 bytes (Part 2, 10.4.7).
+pub type Event<'a> = Lent<'a, EVENT_BYTES>;
 
 // (out of line, as for a command)
 #[tactic(auto, unfolding(crate::specs::Commands::Pcr::pcr_event_reply))]
