@@ -1,7 +1,7 @@
-//! A key that is hashed once for many HMACs (RFC 2104, section 4).
+//! A key that is hashed once for many HMACs (RFC 2104, section 4); authorization values, trimmed and compared.
 #![tactic(auto, using(crate::proofs::Precomputed::changed))]
 
-ghost use Rattle.std.specs.Prelude.{◌≡◌, ◌↔◌, ℕ, List, ◌++◌, length, take, IsTrue};
+ghost use Rattle.std.specs.Prelude.{◌≡◌, ◌↔◌, ℕ, List, ◌++◌, length, take, IsTrue, ◌≤◌};
 ghost use Rattle.std.specs.List.{flat_map};
 ghost use Rattle.tpm_types.specs.Alg.{digest_len, block_len};
 ghost use Rattle.tpm_types.specs.declared.alg.Alg.TheVariants as algs;
@@ -10,8 +10,8 @@ ghost use Rattle.tpm_hmac.specs.Keys.{IsPrecomputed};
 ghost use Rattle.sha1.specs.Sha1.{Holds, sha1};
 ghost use Rattle.sha2.specs.Hashers.{Holds256};
 ghost use Rattle.sha2.specs.Sha256.{sha256};
+ghost use Rattle.tpm_hmac.specs.Sessions.{trim as trim_of};
 
-use crate::bytes::same;
 use crate::hashing::{Hasher, finish_sha1, finish_sha256};
 use crate::mac::{INNER_PAD, OUTER_PAD, hmac, key_block, keyed};
 use sha2::Digest as _;
@@ -166,4 +166,30 @@ impl SessionKey {
             Precomputed::Sha256(inner, outer) => mac_sha256(inner, outer, parts),
         }
     }
+}
+
+/// The bytes without trailing zeros, as an authorization value is used (Part 1, "Authorization Values").
+pub fn trim(bytes: &[u8]) -> &[u8]
+    ensures value { result.now ≡ trim_of bytes.now }
+    ensures shorter { length result.now ≤ length bytes.now }
+{
+    let mut len = bytes.len();
+    while len > 0 && bytes[len - 1] == 0 {
+        len -= 1;
+    }
+    &bytes[..len]
+}
+
+/// Whether both are the same list of bytes. It looks at every byte of two lists of one length, wherever they differ.
+pub fn same(a: &[u8], b: &[u8]) -> bool
+    ensures { IsTrue result ↔ (a.now ≡ b.now) }
+{
+    if a.len() != b.len() {
+        return false;
+    }
+    let mut differences = 0;
+    for (&x, &y) in a.iter().zip(b) {
+        differences |= x ^ y;
+    }
+    differences == 0
 }

@@ -1,32 +1,36 @@
-//! Platform configuration registers, PCR (Part 1, "Platform Configuration Registers (PCR)").
+//! Platform configuration registers, PCR (Part 1, "Platform Configuration Registers (PCR)"). Their banks are one array,
+//! which is written in place.
 
 ghost use Rattle.std.specs.Prelude.{◌≡◌, ◌+◌, ◌*◌, ◌≤◌, ◌<◌, map, List, [], ◌∷◌, ◌++◌, length, Ok, OnOk, OnErr};
-ghost use Rattle.tpm_types.specs.Limits.{banks};
+ghost use Rattle.tpm_types.specs.Limits.{banks, digest_bytes};
 ghost use Rattle.tpm_types.specs.Tpms.{is_selected as selected};
 ghost use Rattle.tpm_types.specs.declared.handle_sets.PcrOrNull.TheVariants.{Pcr};
 ghost use Rattle.tpm_hmac.specs.Hashes.{digest as digest_of};
 ghost use Rattle.tpm_pcr.specs.Registers.Change.{Restart, StartAt, Reset, Extend};
-ghost use Rattle.tpm_pcr.specs.Registers.{Change, event_digests as event_digests_of, is_dynamic, selected_by};
+ghost use Rattle.tpm_pcr.specs.Registers.{Change, event_digests as event_digests_of, selected_by};
 ghost use Rattle.tpm_pcr.specs.Registers.{select_of, selections_read, values_read, composite as composite_of};
-ghost use Rattle.tpm_pcr.specs.Registers.{registers_after, value_in};
-ghost use Rattle.tpm_pcr.specs.Answers.{check_extend, check_reset};
-ghost use Rattle.tpm_pcr.specs.Banks.{registers, value_at};
-ghost use Rattle.tpm_pcr.specs.inner.Banks.{all_bytes};
+ghost use Rattle.tpm_pcr.specs.Registers.{registers_after, value_in, start_value};
+ghost use Rattle.tpm_pcr.specs.Answers.{check_extend, check_reset, locality_number, event_answer};
+ghost use Rattle.tpm_pcr.specs.Banks.{registers, value_at, offset_of};
+ghost use Rattle.tpm_pcr.specs.inner.Banks.{all_bytes, with_value, with_values, filled_but_last, Holds, changed};
 ghost use Rattle.tpm_pcr.specs.inner.Select.{registers_of, chosen, bits_of, first_of};
-ghost use Rattle.tpm_pcr.specs.Answers.{locality_number, event_answer};
+ghost use Rattle.tpm_types.specs.declared.alg.Alg.{Alg};
+ghost use Rattle.tpm_types.specs.Alg.{digest_len};
 
-use crate::banks::{BANKS_BYTES, extend, fill_each, start, value};
 use arrayvec::ArrayVec;
 use std::marker::Model;
 use tpm_hmac::hash;
 use tpm_types::{
-    Alg, BANKS, Digest, DigestValues, Digests, HashedDigest, PcrIndex, REGISTERS, Selection,
-    Selections,
+    Alg, BANKS, DIGEST_BYTES, Digest, DigestValues, Digests, HashedDigest, PcrIndex, REGISTERS,
+    Selection, Selections,
 };
 use tpm_wire::response_code::LOCALITY;
 
 // How many registers are selected at most.
 const MOST_SELECTED: usize = BANKS * REGISTERS as usize;
+
+// How many bytes the registers of all banks have.
+const BANKS_BYTES: usize = 2400;
 
 /// The locality that a platform's start came from.
 #[derive(Clone, Copy, Debug, PartialEq, Eq)]
@@ -69,12 +73,6 @@ impl Model for Registers {
     } };
 }
 
-fn is_for_dynamic_launch(register: u32) -> bool
-    ensures { result ≡ is_dynamic register }
-{
-    17 <= register && register <= 22
-}
-
 fn is_selected(selection: &Selection, register: u32) -> bool
     requires { register < registers }
     ensures { result ≡ selected selection.now.select register }
@@ -91,10 +89,7 @@ fn digest(bytes: &[u8], alg: Alg, register: u32) -> Digest
     requires register { register < registers }
     ensures { result ≡ value_at bytes.now alg register }
 {
-    match Digest::new(value(bytes, alg, register)) {
-        Some(digest) => digest,
-        None => unreachable!(),
-    }
+    Digest::of(value(bytes, alg, register))
 }
 
 // Reads the registers of this byte of a selection as long as there is room for their values, and answers the
@@ -240,7 +235,7 @@ impl Registers {
         ensures refused { OnErr result (self.new ≡ self.old) }
     {
         let number = register.number();
-        if is_for_dynamic_launch(number) {
+        if 17 <= number && number <= 22 {
             return Err(LOCALITY);
         }
         extend(&mut self.bytes, number, digests);
@@ -334,5 +329,104 @@ impl Registers {
         ensures { result ≡ self.now.update_counter }
     {
         self.updates
+    }
+}
+
+// ---- the banks, one behind the other
+
+// How many bytes precede the value of a register: the banks lie one behind the other, in each the registers. A bank of
+// SHA-1 has 480 bytes, and one of SHA-256 has 768.
+fn offset(alg: Alg, register: u32) -> usize
+    requires { register < registers }
+    ensures value { result ≡ offset_of alg register }
+    ensures fits { result + digest_len alg ≤ all_bytes }
+{
+    let start = match alg {
+        Alg::Sha1 => 0,
+        Alg::Sha256 => 480,
+        Alg::Sha384 => 1248,
+    };
+    start + alg.digest_len() * register as usize
+}
+
+// The value of a register in a bank.
+fn value(bytes: &[u8], alg: Alg, register: u32) -> &[u8]
+    requires bytes { length bytes.now ≡ all_bytes }
+    requires register { register < registers }
+    ensures value { result.now ≡ value_at bytes.now alg register }
+    ensures length { length result.now ≡ digest_len alg }
+    ensures fits { length result.now ≤ digest_bytes }
+{
+    let at = offset(alg, register);
+    &bytes[at..at + alg.digest_len()]
+}
+
+// Writes the value of a register in a bank.
+fn write(bytes: &mut [u8], alg: Alg, register: u32, value: &[u8])
+    requires bytes { length bytes.old ≡ all_bytes }
+    requires register { register < registers }
+    requires value { length value.now ≡ digest_len alg }
+    ensures { Holds bytes.new (with_value alg register value.now (value_at bytes.old)) }
+{
+    let at = offset(alg, register);
+    bytes[at..at + value.len()].copy_from_slice(value);
+}
+
+// Writes a register in a bank: the same byte all over, but for the last.
+fn fill(bytes: &mut [u8], alg: Alg, register: u32, byte: u8, last: u8)
+    requires bytes { length bytes.old ≡ all_bytes }
+    requires register { register < registers }
+    ensures { Holds bytes.new
+        (with_value alg register (filled_but_last byte last alg) (value_at bytes.old)) }
+{
+    let len = alg.digest_len();
+    let mut value = [byte; DIGEST_BYTES];
+    value[len - 1] = last;
+    write(bytes, alg, register, &value[..len]);
+}
+
+// Writes a register in each bank: the same byte all over, but for the last.
+fn fill_each(bytes: &mut [u8], register: u32, byte: u8, last: u8)
+    requires bytes { length bytes.old ≡ all_bytes }
+    requires register { register < registers }
+    ensures { Holds bytes.new
+        (with_values register (filled_but_last byte last) (value_at bytes.old)) }
+{
+    for alg in Alg::ALL {
+        fill(bytes, alg, register, byte, last);
+    }
+}
+
+// Starts the registers: zeros, and bytes 0xFF in the registers of dynamic launch, 17 to 22.
+fn start(bytes: &mut [u8; BANKS_BYTES])
+    ensures { Holds bytes.new start_value }
+{
+    *bytes = [0; BANKS_BYTES];
+    for register in 17..23 {
+        fill_each(bytes, register, 0xFF, 0xFF);
+    }
+}
+
+// Extends a register of a bank with a digest.
+fn extend_one(bytes: &mut [u8], alg: Alg, register: u32, digest: &[u8])
+    requires bytes { length bytes.old ≡ all_bytes }
+    requires register { register < registers }
+    requires digest { length digest.now ≡ digest_len alg }
+    ensures { Holds bytes.new
+        (with_value alg register (digest_of alg (value_at bytes.old alg register ++ digest.now))
+        (value_at bytes.old)) }
+{
+    let at = offset(alg, register);
+    tpm_hmac::extend(alg, &mut bytes[at..at + alg.digest_len()], digest);
+}
+
+// Extends a register with each of the digests, in their order, in the bank of the digest's hash.
+fn extend(bytes: &mut [u8], register: u32, digests: &DigestValues)
+    requires bytes { length bytes.old ≡ all_bytes }
+    requires register { register < registers }
+    ensures { Holds bytes.new (changed (Extend register digests.now) bytes.old) }
+{
+    for entry in digests.as_slice() {
+        extend_one(bytes, entry.hash(), register, entry.digest());
     }
 }
