@@ -415,9 +415,6 @@ impl Counters {
         if offset + size > COUNTER_BYTES {
             return Err(NV_RANGE);
         }
-        match Bounded::new(&value.to_be_bytes()[offset..offset + size]) {
-            Some(bytes) => Ok(bytes),
-            None => unreachable!(),
-        }
+        Ok(Bounded::of(&value.to_be_bytes()[offset..offset + size]))
     }
 }

@@ -108,7 +108,7 @@ impl Definition {
             index: self.index,
             alg: self.alg,
             attrs: self.attrs,
-            policy: sized(self.policy.as_slice()),
+            policy: Digest::of(self.policy.as_slice()),
             data_size: COUNTER_BYTES as u16,
         }
     }
@@ -117,7 +117,7 @@ impl Definition {
     pub(crate) fn auth_value(&self) -> AuthValue
         ensures { result ≡ self.now.auth }
     {
-        sized(self.auth.as_slice())
+        AuthValue::of(self.auth.as_slice())
     }
 
     // Sets WRITTEN.
@@ -158,17 +158,6 @@ impl Definition {
     }
 }
 
-// The same bytes, as a digest or an authorization value that is sent.
-fn sized(bytes: &[u8]) -> Digest
-    requires { length bytes.now ≤ digest_bytes }
-    ensures { result ≡ bytes.now }
-{
-    match Digest::new(bytes) {
-        Some(digest) => digest,
-        None => unreachable!(),
-    }
-}
-
 // The Name of a hash's number and a digest under it.
 fn joined(alg: &[u8; 2], digest: &[u8]) -> Name
     requires { length digest.now ≤ digest_bytes }
@@ -177,8 +166,5 @@ fn joined(alg: &[u8; 2], digest: &[u8]) -> Name
     let mut bytes: ArrayVec<u8, NAME_BYTES> = ArrayVec::new();
     let _ = bytes.try_extend_from_slice(alg);
     let _ = bytes.try_extend_from_slice(digest);
-    match Name::new(bytes.as_slice()) {
-        Some(name) => name,
-        None => unreachable!(),
-    }
+    Name::of(bytes.as_slice())
 }

@@ -258,7 +258,7 @@ impl Sessions {
         let by = self.session_of(how.slot)?;
         check_session(by, how.first, how.count)?;
         check_entity(by, claim)?;
-        check_evidence(by, self.hashed(), how.first, claim)
+        check_evidence(by, &self.hashed, how.first, claim)
     }
 
     /// The session of the reply to a command that was authorized so, before it rolls: a password is
@@ -288,7 +288,7 @@ impl Sessions {
             Ok(Some(session)) => {
                 let signed = Signed {
                     session,
-                    hashed: self.hashed(),
+                    hashed: &self.hashed,
                     follows: session.follows(entity),
                     auth: how.first,
                 };

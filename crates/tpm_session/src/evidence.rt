@@ -1,12 +1,12 @@
 //! What authorizes a command, the evidence that it does, a password or an HMAC, and the session of the reply
 //! (Part 1, "HMAC Computation" and "Password Authorizations").
 
-ghost use Rattle.std.specs.Prelude.{◌≡◌, ◌&&◌, ℕ, List, [], ◌∷◌, option_map};
+ghost use Rattle.std.specs.Prelude.{◌≡◌, ℕ, List, [], ◌∷◌, option_map};
 ghost use Rattle.tpm_types.specs.CommandCodes.{code_number};
 ghost use Rattle.tpm_hmac.specs.Hmac.{hmac};
-ghost use Rattle.tpm_hmac.specs.Sessions.{mac_text, whole_key, cp_hash as cp_hash_of, trim as trim_of};
+ghost use Rattle.tpm_hmac.specs.Sessions.{mac_text, whole_key, cp_hash as cp_hash_of};
 ghost use Rattle.tpm_model.specs.Entities.{auth_value, is_owner_entity};
-ghost use Rattle.tpm_model.specs.Authorization.{follows, is_empty, needs_none, is_signed};
+ghost use Rattle.tpm_model.specs.Authorization.{follows, needs_none, is_signed};
 ghost use Rattle.tpm_model.specs.Authorization.{failure as failure_of, Evidence, evidence_by};
 ghost use Rattle.tpm_model.specs.Authorization.{check_evidence as evidence_checked, reply_auths};
 ghost use Rattle.tpm_model.specs.Authorization.{password_reply as password_reply_of};
@@ -98,21 +98,17 @@ pub(crate) struct Signed<'a> {
 }
 
 impl Signed<'_> {
-    // Whether the key is empty, of which what follows the session key is a part.
-    fn has_no_key(&self) -> bool
-        ensures { result ≡
-            (is_empty self.now.session.now.key && is_empty (trim_of self.now.follows.now)) }
-    {
-        let session = self.session;
-        session.key.as_slice().is_empty() && trim(self.follows).is_empty()
-    }
-
-    // Whether an empty HMAC is none: the command has no other, and there is no key.
+    // Whether an empty HMAC is none: the command has no other, and there is no key, of which what follows the session
+    // key is a part.
     #[tactic(auto, using(crate::proofs::Keys::empty_key))]
     fn needs_none(&self) -> bool
         ensures { result ≡ needs_none (signed_in self.now []) }
     {
-        self.has_no_key() && self.auth.hmac().is_empty()
+        if !self.auth.hmac().is_empty() {
+            return false;
+        }
+        let session = self.session;
+        session.key.as_slice().is_empty() && trim(self.follows).is_empty()
     }
 
     // The MAC of a command or of a response under the session key and what follows it, by the key that was hashed where
@@ -165,9 +161,7 @@ impl Signed<'_> {
             ≡ result ∷ [] }
     {
         let session = self.session;
-        let Some(nonce) = Nonce::new(&answered.nonce[..session.nonce.as_slice().len()]) else {
-            unreachable!()
-        };
+        let nonce = Nonce::of(&answered.nonce[..session.nonce.as_slice().len()]);
         let hmac = if self.needs_none() {
             AuthValue::default()
         } else {

@@ -1,7 +1,6 @@
 //! One session, as it is held, and its policy.
 
 ghost use Rattle.std.specs.Prelude.{◌≡◌, ◌≤◌, [], length};
-ghost use Rattle.tpm_types.specs.Handles.{kind_of};
 ghost use Rattle.tpm_types.specs.declared.handle_sets.BindHandle.TheVariants as binds;
 ghost use Rattle.tpm_hmac.specs.Sessions.{trim as trim_of};
 ghost use Rattle.tpm_model.specs.Steps.{Origin};
@@ -11,7 +10,7 @@ ghost use Rattle.tpm_model.specs.Sessions.{is_handle_of, is_trial as is_trial_ty
 ghost use Rattle.tpm_model.specs.Sessions.{as_session};
 ghost use Rattle.tpm_model.specs.Actions.{check_policy_pcr, check_policy_or, check_policy_code};
 ghost use Rattle.tpm_session.specs.Policies.{as_assertion};
-ghost use Rattle.tpm_session.specs.inner.Asserting.{rolled, asserting, restarted};
+ghost use Rattle.tpm_session.specs.inner.Asserting.{rolled, asserting};
 
 use crate::policy::{Assertion, differs, is_listed};
 use std::marker::Model;
@@ -67,10 +66,7 @@ impl Policy {
 pub fn empty_policy(alg: Alg) -> Digest
     ensures { result ≡ policy_digest alg [] }
 {
-    match Digest::new(&[0; DIGEST_BYTES][..alg.digest_len()]) {
-        Some(digest) => digest,
-        None => unreachable!(),
-    }
+    Digest::of(&[0; DIGEST_BYTES][..alg.digest_len()])
 }
 
 /// A session that is loaded.
@@ -128,8 +124,8 @@ impl Session {
         ensures { result ≡ is_handle_of session self.now }
     {
         match self.session_type {
-            SessionType::Hmac => kind(session) == HMAC_SESSION,
-            SessionType::Policy | SessionType::Trial => kind(session) == POLICY_SESSION,
+            SessionType::Hmac => session.number() >> 24 == HMAC_SESSION,
+            SessionType::Policy | SessionType::Trial => session.number() >> 24 == POLICY_SESSION,
         }
     }
 
@@ -256,7 +252,7 @@ impl Session {
     pub(crate) fn policy_digest(&self) -> Digest
         ensures { result ≡ self.now.policy.digest }
     {
-        digest_of(&self.policy.digest)
+        Digest::of(self.policy.digest.as_slice())
     }
 
     // This is asserted too.
@@ -264,13 +260,6 @@ impl Session {
         ensures { self.new ≡ asserting (as_assertion assertion.now) self.old }
     {
         self.policy.assert(self.hash, assertion);
-    }
-
-    // Nothing is asserted any more.
-    pub(crate) fn restart(&mut self)
-        ensures { self.new ≡ restarted self.old }
-    {
-        self.policy = Policy::new(self.hash);
     }
 
     // The next nonce, and nothing asserted any more. The key of an HMAC session is hashed for its next command.
@@ -282,7 +271,7 @@ impl Session {
         if self.session_type == SessionType::Hmac {
             self.hash_key(hashed);
         }
-        self.restart();
+        self.policy = Policy::new(self.hash);
     }
 
     // Makes it the session's key, hashed.
@@ -290,31 +279,16 @@ impl Session {
         ensures { hashed.new ≡ record { hash = self.now.hash; bytes = self.now.key } }
     {
         if !hashed.is_of(self.hash, self.key.as_slice()) {
-            *hashed = SessionKey::new(self.hash, digest_of(&self.key));
+            *hashed = SessionKey::new(self.hash, Digest::of(self.key.as_slice()));
         }
         hashed.keep();
     }
 }
 
-// The digest, as one that is sent.
-fn digest_of(packed: &Packed<DIGEST_BYTES>) -> Digest
-    ensures { result ≡ packed.now }
-{
-    match Digest::new(packed.as_slice()) {
-        Some(digest) => digest,
-        None => unreachable!(),
-    }
-}
-
+// Kinds of handles: their most significant byte, TPM_HT (Part 2, 7.2).
 const HMAC_SESSION: u32 = 0x02;
 
 const POLICY_SESSION: u32 = 0x03;
-
-fn kind(session: SessionHandle) -> u32
-    ensures { result ≡ kind_of session }
-{
-    session.number() >> 24
-}
 
 // The first bytes that are handed in, as many as the caller's nonce has.
 pub(crate) fn first_of(start: &StartAuth, nonce: &[u8; NONCE_BYTES]) -> Nonce
@@ -322,8 +296,5 @@ pub(crate) fn first_of(start: &StartAuth, nonce: &[u8; NONCE_BYTES]) -> Nonce
     ensures { result ≡ nonce_from start.now nonce.now }
 {
     let len = start.params.nonce_caller.as_slice().len();
-    match Nonce::new(&nonce[..len]) {
-        Some(nonce) => nonce,
-        None => unreachable!(),
-    }
+    Nonce::of(&nonce[..len])
 }

@@ -25,7 +25,7 @@ ghost use Rattle.tpm_session.specs.inner.Asserting.{after_command, asserting, re
 
 use crate::authorize::Authorization;
 use crate::policy::Assertion;
-use crate::session::{NONCE_BYTES, Session, first_of};
+use crate::session::{NONCE_BYTES, Policy, Session, first_of};
 use std::marker::Model;
 use tpm_commands::{StartAuth, StartReply};
 use tpm_hmac::SessionKey;
@@ -53,7 +53,7 @@ const LEAST_NONCE: usize = 16;
 pub struct Sessions {
     slots: [Option<Session>; SLOTS],
     // The key of the session that was started or used last, hashed, so that its next command need not do it.
-    hashed: SessionKey,
+    pub(crate) hashed: SessionKey,
 }
 
 impl Model for Sessions {
@@ -130,11 +130,6 @@ impl Sessions {
             Some(found) if found.has_handle(session) => Some(found),
             _ => None,
         }
-    }
-
-    // A key that is hashed, which may be any.
-    pub(crate) fn hashed(&self) -> &SessionKey {
-        &self.hashed
     }
 
     // The session in this slot, where there is one.
@@ -407,7 +402,7 @@ fn restart(slot: &mut Option<Session>)
     ensures { slot.new ≡ option_map restarted slot.old }
 {
     if let Some(session) = slot {
-        session.restart();
+        session.policy = Policy::new(session.hash);
     }
 }
 
