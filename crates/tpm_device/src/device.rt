@@ -1,25 +1,32 @@
-//! A device: the order of its checks.
+//! A device: the order of its checks, and those before the parameters.
 
 ghost use Rattle.std.specs.Prelude.{◌≡◌, ◌<◌, ◌≤◌, [], ◌∷◌, length, Ok, Err, IfOk, IfErr, IfSome, IfNone, OnOk, OnErr};
 ghost use Rattle.tpm_model.specs.Steps.{History, PowerCycle, Origin, new_origin};
 ghost use Rattle.tpm_model.specs.Answers.{presented as presented_of, performed as performed_of, outcome as outcome_of};
-ghost use Rattle.tpm_model.specs.Answers.{answered, answer, next, with_outcome};
+ghost use Rattle.tpm_model.specs.Answers.{answered, answer, next, with_outcome, check_started as started_of};
+ghost use Rattle.tpm_model.specs.Answers.{check_handle as handle_of, check_handles as handles_of, check_tag as tag_of};
 ghost use Rattle.tpm_model.specs.Premises.{code_in};
 ghost use Rattle.tpm_device.specs.Stands.{Stands, holds};
-ghost use Rattle.tpm_device.specs.inner.Checks.{none_loaded, IsAdmitted, IsRead};
+ghost use Rattle.tpm_device.specs.inner.Checks.{none_loaded, IsAdmitted, IsRead, sessions_checked};
 ghost use Rattle.tpm_device.specs.inner.Performing.{MayBePerformed, IsPerformed};
-ghost use Rattle.tpm_device.specs.inner.Actions.{IsActed};
 ghost use Rattle.tpm_device.specs.inner.Answers.{given, told};
+ghost use Rattle.tpm_model.specs.Entities.{entity_of, name_of, names_of};
+ghost use Rattle.tpm_session.specs.Entities.{entity_in, IsAuthorization};
 
-use crate::checks::{check_started, check_tag};
-use crate::reading::{bare, read_params, selections};
 use crate::reply::{RESPONSE_BYTES, ResponseBuffer, put_refusal};
-use tpm_buffer::{Areas, header};
-use tpm_commands::{Params, ReplyBody};
+use arrayvec::ArrayVec;
+use tpm_buffer::{Areas, NO_SESSIONS, SESSIONS, header};
+use tpm_commands::{CommandTable, first_handle};
 use tpm_nv::Counters;
 use tpm_pcr::Registers;
-use tpm_session::{Authorization, Sessions};
-use tpm_types::{AuthValue, CommandCode, DIGEST_BYTES, Packed};
+use tpm_session::{Authorization, Claim, Entity, Sessions};
+use tpm_types::{
+    AuthValue, CommandCode, DIGEST_BYTES, Name, NvIndex, Packed, PcrIndex, PolicyHandle, RH_OWNER,
+    name_of_handle,
+};
+use tpm_wire::response_code::{
+    AUTH_CONTEXT, AUTH_MISSING, HANDLE, INITIALIZE, REFERENCE_H0, of_handle,
+};
 
 /// A device of this profile.
 #[derive(Drop)]
@@ -38,17 +45,144 @@ pub(crate) fn no_sessions() -> Sessions
     Sessions::new()
 }
 
-// What a reply to a command with this code begins as: an action that answers no more leaves it so,
-// since an enum that is assigned is filled to its end.
-#[inline(always)]
-fn begun(code: CommandCode) -> ReplyBody {
-    match code {
-        CommandCode::NvUndefineSpace => ReplyBody::NvUndefineSpace,
-        CommandCode::NvDefineSpace => ReplyBody::NvDefineSpace,
-        CommandCode::NvIncrement => ReplyBody::NvIncrement,
-        CommandCode::PcrReset => ReplyBody::PcrReset,
-        CommandCode::FlushContext => ReplyBody::FlushContext,
-        _ => ReplyBody::Startup,
+// INITIALIZE for TPM2_Startup on a device that is started, and for another command on one that is not.
+fn check_started(started: bool, code: CommandCode) -> Result<(), u32>
+    ensures { result ≡ started_of started code }
+{
+    if started == (code == CommandCode::Startup) {
+        return Err(INITIALIZE);
+    }
+    Ok(())
+}
+
+// AUTH_MISSING where a handle needs authorization and there is no session, AUTH_CONTEXT where none
+// does and there is one.
+fn check_tag(code: CommandCode, tag: u16) -> Result<(), u32>
+    ensures { result ≡ tag_of code tag }
+{
+    if code.needs_authorization() {
+        if tag == NO_SESSIONS {
+            return Err(AUTH_MISSING);
+        }
+    } else if tag == SESSIONS {
+        return Err(AUTH_CONTEXT);
+    }
+    Ok(())
+}
+
+impl Device {
+    // REFERENCE_H0 for a handle of a policy session that is not loaded, HANDLE for that of an index
+    // that is not defined.
+    fn check_handle(&self, number: u32, handle: u32) -> Result<(), u32>
+        requires { number ≤ 2 }
+        ensures { result ≡ handle_of (holds self.now) number handle }
+    {
+        if let Some(session) = PolicyHandle::from_number(handle) {
+            return match self.sessions.policy(session) {
+                Some(_) => Ok(()),
+                None => Err(REFERENCE_H0 + number - 1),
+            };
+        }
+        if let Some(index) = NvIndex::from_number(handle) {
+            if self.counters.definition(index).is_none() {
+                return Err(HANDLE + of_handle(number));
+            }
+        }
+        Ok(())
+    }
+
+    // The first refusal of the handles, in their order.
+    fn check_handles(&self, handles: &[u32]) -> Result<(), u32>
+        requires { length handles.now ≤ 2 }
+        ensures { result ≡ handles_of (holds self.now) 1 handles.now }
+    {
+        match handles {
+            [] => Ok(()),
+            [only] => self.check_handle(1, *only),
+            [one, two, ..] => {
+                self.check_handle(1, *one)?;
+                self.check_handle(2, *two)
+            }
+        }
+    }
+
+    /// What a handle names that is the first of a command which needs authorization, as it is now (Part 2, 7.2).
+    pub(crate) fn entity(&self, handle: u32) -> Entity<'_>
+        ensures { entity_in result ≡ entity_of (holds self.now) handle }
+    {
+        if PcrIndex::from_number(handle).is_some() {
+            return Entity::Register;
+        }
+        if handle == RH_OWNER {
+            return Entity::Owner(self.owner.as_slice());
+        }
+        let Some(index) = NvIndex::from_number(handle) else {
+            return Entity::Null;
+        };
+        match self.counters.definition(index) {
+            Some(definition) => Entity::Index(definition),
+            None => Entity::Null,
+        }
+    }
+
+    // The Name of a handle: that of an index, or else the handle's bytes.
+    fn name(&self, handle: u32) -> Name
+        ensures { result ≡ name_of (holds self.now) handle }
+    {
+        match NvIndex::from_number(handle) {
+            Some(index) => match self.counters.name(index) {
+                Some(name) => name,
+                None => name_of_handle(handle),
+            },
+            None => name_of_handle(handle),
+        }
+    }
+
+    // The Names of the handles.
+    fn names(&self, handles: &[u32]) -> ArrayVec<Name, 2>
+        requires { length handles.now ≤ 2 }
+        ensures { result.items ≡ names_of (holds self.now) handles.now }
+    {
+        let mut names = ArrayVec::new();
+        match handles {
+            [] => {}
+            [only] => names.push(self.name(*only)),
+            [one, two, ..] => {
+                names.push(self.name(*one));
+                names.push(self.name(*two));
+            }
+        }
+        names
+    }
+
+    // All checks of the sessions: they are the last checks before the parameters. A third session is refused as a
+    // second is. A password covers no Names. It is out of line, so that the Names are off the stack before the command
+    // is performed.
+    #[inline(never)]
+    fn check_sessions(
+        &self,
+        areas: &Areas<'_>,
+        by: &Option<Authorization<'_, '_>>,
+    ) -> Result<(), u32>
+        requires few { length areas.now.handles ≤ 2 }
+        requires own { IsAuthorization self.now.sessions areas.now.auths by.now }
+        ensures { result ≡ sessions_checked (holds self.now) areas.now }
+    {
+        let Some(how) = by else {
+            return Ok(());
+        };
+        let names = match how.slot {
+            Some(_) => self.names(areas.handles()),
+            None => ArrayVec::new(),
+        };
+        let claim = Claim {
+            entity: self.entity(first_handle(areas.handles())),
+            command: areas.code(),
+            names: names.as_slice(),
+            params: areas.params(),
+            update_counter: self.registers.update_counter(),
+        };
+        self.sessions.authorize_by(how, &claim)
     }
 }
 
@@ -102,104 +236,6 @@ impl Device {
             Ok(()) => Ok(()),
             Err(refusal) => Err(refusal.code),
         }
-    }
-
-    // As `acted`, of parameters that are decoded, whatever they are. It is out of line, so that their room is off the
-    // stack before the reply is written. With the decoder out of line too (`read_params`) the deepest stack was 9,656
-    // bytes by the toolchain's compiler, in place of 13,552.
-    #[inline(never)]
-    fn acted_on_decoded(
-        &mut self,
-        areas: &Areas<'_>,
-        nonce: &[u8; 64],
-        body: &mut ReplyBody,
-    ) -> Result<(), u32>
-        ensures { IsActed areas.now
-            (record {
-              old = self.old;
-              nonce = nonce.now;
-              reply = body.new;
-              new = self.new;
-            }) result }
-    {
-        let mut params = Params::PolicyRestart;
-        match read_params(areas, &mut params) {
-            Ok(()) => self.act(areas.handles(), &params, nonce, body),
-            Err(code) => Err(code),
-        }
-    }
-
-    // As `acted`, of parameters that are read by value; and otherwise nothing is done. It is out of line, so that what
-    // it makes is off the stack before the longest parameters are decoded.
-    #[inline(never)]
-    fn acted_on_few(
-        &mut self,
-        areas: &Areas<'_>,
-        nonce: &[u8; 64],
-        body: &mut ReplyBody,
-    ) -> Option<Result<(), u32>>
-        ensures some { IfSome result (λ given. IsActed areas.now
-            (record {
-              old = self.old;
-              nonce = nonce.now;
-              reply = body.new;
-              new = self.new;
-            }) given) }
-        ensures none { IfNone result (self.new ≡ self.old) }
-    {
-        if matches!(areas.code(), CommandCode::PcrRead) {
-            let selections = selections(areas.params())?;
-            self.read_registers(&selections, body);
-            return Some(Ok(()));
-        }
-        match bare(areas.code(), areas.params()) {
-            Some(params) => Some(self.act(areas.handles(), &params, nonce, body)),
-            None => None,
-        }
-    }
-
-    // The parameters and the action, which leaves its reply in the body.
-    #[inline(always)]
-    fn acted(
-        &mut self,
-        areas: &Areas<'_>,
-        nonce: &[u8; 64],
-        body: &mut ReplyBody,
-    ) -> Result<(), u32>
-        ensures { IsActed areas.now
-            (record {
-              old = self.old;
-              nonce = nonce.now;
-              reply = body.new;
-              new = self.new;
-            }) result }
-    {
-        match self.acted_on_few(areas, nonce, body) {
-            Some(given) => given,
-            None => self.acted_on_decoded(areas, nonce, body),
-        }
-    }
-
-    // The parameters, the action, which leaves its reply in a body, and the reply, after which the nonce of the
-    // command's first session rolls.
-    #[inline(never)]
-    fn performed_by_action(
-        &mut self,
-        areas: &Areas<'_>,
-        by: &Option<Authorization<'_, '_>>,
-        nonce: &[u8; 64],
-        out: &mut ResponseBuffer,
-    ) -> Result<(), u32>
-        requires { MayBePerformed self.old areas.now by.now out.old }
-        ensures { IsPerformed areas.now (performed_of (holds self.old) nonce.now)
-            (record { device = self.old; nonce = nonce.now; out = out.old })
-            (record { result = result; device = self.new; out = out.new }) }
-    {
-        let mut body = begun(areas.code());
-        self.acted(areas, nonce, &mut body)?;
-        self.put_done(&body, areas, by, nonce, out);
-        self.roll(by, nonce);
-        Ok(())
     }
 
     // As `performed_by_action`, where the command has a function of its own; and otherwise nothing is done. These

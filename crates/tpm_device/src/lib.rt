@@ -2,7 +2,6 @@
 #![tactic(auto)]
 
 mod actions;
-mod checks;
 mod device;
 mod kept;
 mod laws;
