@@ -6,4 +6,4 @@ mod pieces;
 mod text;
 
 pub use pieces::Pieces;
-pub use text::{bytes, next_bytes, next_number, next_value, number, spelled, word};
+pub use text::{bytes, is_spelled, next_bytes, next_number, next_value, number, spelled, word};

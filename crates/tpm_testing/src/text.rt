@@ -37,6 +37,14 @@ pub fn spelled(text: &str) -> Buffer {
     }
 }
 
+/// Whether these are the bytes of hexadecimal words. It is no where a word is no such thing.
+pub fn is_spelled(found: &[u8], text: &str) -> bool {
+    match bytes(text) {
+        Some(expected) => expected.as_slice() == found,
+        None => false,
+    }
+}
+
 /// The bytes of the next word of a line.
 pub fn next_bytes(line: &mut &str) -> Buffer {
     spelled(word(line))
