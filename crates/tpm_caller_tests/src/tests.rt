@@ -4,6 +4,7 @@ mod caller_both_ends;
 mod caller_ends;
 mod caller_scripts;
 mod caller_sealed;
+mod caller_waiting;
 mod device_kept;
 mod hmac_hashes;
 mod hmac_macs;

@@ -15,7 +15,7 @@ use tpm_buffer::{decode_command, decode_response};
 use tpm_caller::{Caller, CallerFault, Pending, Plain};
 use tpm_commands::{CommandBody, CommandTable, ReplyBody, Response, StartAuth};
 use tpm_device::{Device, ResponseBuffer};
-use tpm_testing::{next_bytes, next_number, spelled, word};
+use tpm_testing::{bytes, is_spelled, next_bytes, next_number, spelled, word};
 use tpm_types::{CommandCode, Nonce};
 use tpm_wire::Buffer;
 
@@ -30,8 +30,8 @@ pub struct End {
     sent: Buffer,
 }
 
-/// The caller of the session of this TPM2_StartAuthSession and its reply, if they make one.
-pub fn started(command: &[u8], reply: &[u8]) -> Option<Caller> {
+/// What caller this TPM2_StartAuthSession and its reply make, if any; none where they are no such two.
+pub fn started(command: &[u8], reply: &[u8]) -> Option<Option<Caller>> {
     let reply = decode_response(CommandCode::StartAuthSession, reply);
     match (decode_command(command), reply) {
         (Ok(command), Ok(reply)) => match &command.body {
@@ -42,13 +42,21 @@ pub fn started(command: &[u8], reply: &[u8]) -> Option<Caller> {
     }
 }
 
-fn caller_of(start: &StartAuth, reply: &Response) -> Option<Caller> {
+fn caller_of(start: &StartAuth, reply: &Response) -> Option<Option<Caller>> {
     match reply {
         Response::Done {
             body: ReplyBody::StartAuthSession(reply),
             ..
-        } => Caller::start(start, reply, OWNER),
+        } => Some(Caller::start(start, reply, OWNER)),
         _ => None,
+    }
+}
+
+// The nonce of these bytes, or none where they are no nonce.
+fn nonce(text: &str) -> Option<Nonce> {
+    match bytes(text) {
+        Some(bytes) => Nonce::new(bytes.as_slice()),
+        None => None,
     }
 }
 
@@ -60,7 +68,8 @@ fn code(reply: &[u8]) -> Option<u32> {
     }
 }
 
-fn is_fault(fault: &CallerFault, mut rest: &str) -> bool {
+/// Whether it is the fault that the line says.
+pub fn is_fault(fault: &CallerFault, mut rest: &str) -> bool {
     match fault {
         CallerFault::Refused(refusal) => {
             refusal.code == next_number(&mut rest) && refusal.at == next_number(&mut rest)
@@ -71,8 +80,8 @@ fn is_fault(fault: &CallerFault, mut rest: &str) -> bool {
     }
 }
 
-// Whether it is done, in one session.
-fn is_done(response: &Response) -> bool {
+/// Whether it is done, in one session.
+pub fn is_done(response: &Response) -> bool {
     match response {
         Response::Done { auths, .. } => auths.len() == 1,
         Response::Code(_) => false,
@@ -101,8 +110,7 @@ impl End {
             "begins" => {
                 let command = spelled(rest);
                 let reply = device.execute(command.as_slice(), nonce);
-                self.caller = started(command.as_slice(), reply.as_slice());
-                self.caller.is_some()
+                self.starts(command.as_slice(), reply.as_slice())
             }
             "sends" => {
                 device.execute_into(self.sent.as_slice(), nonce, reply);
@@ -120,16 +128,21 @@ impl End {
         match asked {
             "starts" => {
                 let command = next_bytes(&mut rest);
-                self.caller = started(command.as_slice(), spelled(rest).as_slice());
-                self.caller.is_some()
+                self.starts(command.as_slice(), spelled(rest).as_slice())
             }
             "starts-not" => {
                 let command = next_bytes(&mut rest);
-                started(command.as_slice(), spelled(rest).as_slice()).is_none()
+                match started(command.as_slice(), spelled(rest).as_slice()) {
+                    Some(caller) => caller.is_none(),
+                    None => false,
+                }
             }
             "seals" => self.seals(rest),
-            "seals-not" => Plain::read(spelled(rest).as_slice()).is_none(),
-            "sent" => self.sent.as_slice() == spelled(rest).as_slice(),
+            "seals-not" => match bytes(rest) {
+                Some(command) => Plain::read(command.as_slice()).is_none(),
+                None => false,
+            },
+            "sent" => is_spelled(self.sent.as_slice(), rest),
             "opens" => self.opens(reply, rest),
             "gives-up" => self.gives_up(reply),
             "keeps" => !self.gives_up(reply),
@@ -137,12 +150,31 @@ impl End {
         }
     }
 
+    fn starts(&mut self, command: &[u8], reply: &[u8]) -> bool {
+        self.caller = match started(command, reply) {
+            Some(caller) => caller,
+            None => None,
+        };
+        self.caller.is_some()
+    }
+
     // Whether a command is sealed, behind which nothing of the room has changed.
     fn seals(&mut self, mut rest: &str) -> bool {
-        let nonce = Nonce::new(next_bytes(&mut rest).as_slice()).unwrap_or_default();
-        let names = [name(word(&mut rest)), name(word(&mut rest))];
-        let auth = next_bytes(&mut rest);
-        let keep = word(&mut rest) == "keep";
+        let Some(nonce) = nonce(word(&mut rest)) else {
+            return false;
+        };
+        let (Some(first), Some(second)) = (name(word(&mut rest)), name(word(&mut rest))) else {
+            return false;
+        };
+        let names = [first, second];
+        let Some(auth) = bytes(word(&mut rest)) else {
+            return false;
+        };
+        let left = word(&mut rest);
+        let keep = left == "keep";
+        if !keep && left != "last" {
+            return false;
+        }
         let command = spelled(rest);
         let Some(plain) = Plain::read(command.as_slice()) else {
             return false;

@@ -4,7 +4,7 @@
 //! Numbers and bytes are hexadecimal, and `-` is no byte.
 //!
 //! - `device`: from here on, a new device, and `tpm`: one that is started. Each byte of the nonce for what it executes
-//!   is the number of the line, which `count NUMBER` sets.
+//!   is how many lines were done, comments aside, modulo 256, which `count NUMBER` sets.
 //! - `execute COMMAND REPLY`: what the device answers.
 //! - `reply BYTES`: what the ends open from here on. `answers-with BYTES`: how it begins.
 //! - `a ..` and `b ..`: what one end of a session does, as `caller_ends` tells.
@@ -17,7 +17,7 @@ use crate::tests::session_calls::OWNER;
 use std::process::Abort;
 use std::test::*;
 use tpm_device::{Device, ResponseBuffer};
-use tpm_testing::{next_bytes, next_value, spelled, word};
+use tpm_testing::{bytes, is_spelled, next_bytes, next_value, spelled, word};
 use tpm_types::AuthValue;
 
 // TPM2_Startup with TPM_SU_CLEAR.
@@ -30,7 +30,7 @@ pub fn owner() -> AuthValue {
     AuthValue::new(OWNER).unwrap_or_default()
 }
 
-/// A device, its last reply, the number of the line, and two ends of sessions.
+/// A device, its last reply, how many lines were done with it, comments aside, modulo 256, and two ends of sessions.
 #[derive(Drop)]
 struct Bench {
     device: Device,
@@ -70,25 +70,31 @@ fn step(bench: &mut Bench, line: &str) -> bool {
             .step(&mut bench.device, &nonce, &mut bench.reply, rest),
         "tpm" => {
             bench.device = Device::new(&owner(), 0);
-            let _answer = bench.device.execute(&STARTUP, &nonce);
-            true
+            let answer = bench.device.execute(&STARTUP, &nonce);
+            is_spelled(answer.as_slice(), "80010000000a00000000")
         }
-        "count" => {
-            bench.count = next_value::<u8>(&mut rest).unwrap_or(0);
-            true
+        "count" => match next_value::<u8>(&mut rest) {
+            Some(count) => {
+                bench.count = count;
+                true
+            }
+            None => false,
+        },
+        "reply" => match bytes(rest) {
+            Some(reply) => {
+                bench.reply.clear();
+                bench.reply.try_extend_from_slice(reply.as_slice()).is_ok()
+            }
+            None => false,
+        },
+        "answers-with" => {
+            let front = spelled(rest);
+            !front.is_empty() && bench.reply.as_slice().starts_with(front.as_slice())
         }
-        "reply" => {
-            bench.reply.clear();
-            bench
-                .reply
-                .try_extend_from_slice(spelled(rest).as_slice())
-                .is_ok()
-        }
-        "answers-with" => bench.reply.as_slice().starts_with(spelled(rest).as_slice()),
         "execute" => {
             let command = next_bytes(&mut rest);
             let reply = bench.device.execute(command.as_slice(), &nonce);
-            reply.as_slice() == spelled(rest).as_slice()
+            is_spelled(reply.as_slice(), rest)
         }
         asked => is_asked(&mut bench.device, asked, rest),
     }

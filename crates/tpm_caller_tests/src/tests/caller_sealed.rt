@@ -4,13 +4,8 @@
 //! The sessions are 02000000 of SHA-256, bound to the owner, with the number 2 in 16 bytes as nonceTPM; 02000001, bound
 //! to none, with the number 5; and 02000002 of SHA-1, bound to the owner, with the number 7. nonceCaller is zeros.
 
-use crate::tests::caller_ends::started;
 use crate::tests::caller_scripts::run;
-use arrayvec::ArrayVec;
 use std::test::*;
-use tpm_commands::{CommandBody, Event};
-use tpm_testing::next_bytes;
-use tpm_types::{Nonce, PcrIndex, PcrOrNull, name_of_handle};
 
 #[test]
 fn commands_are_sealed_and_replies_opened_as_python_does(rt: HostRuntime) {
@@ -90,38 +85,4 @@ fn commands_are_sealed_and_replies_opened_as_python_does(rt: HostRuntime) {
         a starts-not 8001000000300000017640000007400000070015a0a1a2a3a4a5a6a7a8a9aaabacadaeafb0b1b2b3b400000000100004 80010000002500000000020000000015a0a1a2a3a4a5a6a7a8a9aaabacadaeafb0b1b2b3b4
         ",
     );
-}
-
-// The session of SHA-1, TPM2_PCR_Event of register 0 in it, and a refusal.
-const EVENT: &str =
-    "80010000002b00000176400000074000000100100000000000000000000000000000000000000000100004 8001000000200000000002000002001000000000000000000000000000000007 8002000000450000013c000000000000002d020000020010222222222222222222222222222222220100143f03f49eaac4f6f2dff77ce7b5696b961b51fde2000400000000 80010000000a000009a2";
-
-#[test]
-fn a_waiting_is_opened_or_given_up(rt: HostRuntime) {
-    let mut texts = EVENT;
-    let start = next_bytes(&mut texts);
-    let reply = next_bytes(&mut texts);
-    let expected = next_bytes(&mut texts);
-    let caller = started(start.as_slice(), reply.as_slice()).expect(&rt, "a caller");
-    let mut names = ArrayVec::new();
-    names.push(name_of_handle(0));
-    let waiting = caller.seal(
-        CommandBody::PcrEvent {
-            register: PcrOrNull::Pcr(PcrIndex::default()),
-            event: Event::new(&[0; 4]).expect(&rt, "an event"),
-        },
-        names,
-        &[],
-        Nonce::new(&[0x22; 16]).unwrap_or_default(),
-        true,
-    );
-    assert!(rt; waiting.bytes() == expected.as_slice());
-    let refusal = next_bytes(&mut texts);
-    match waiting.open(refusal.as_slice()) {
-        Ok(_) => panic!(rt; "opened"),
-        Err(unopened) => {
-            let (waiting, _fault) = unopened;
-            assert!(rt; waiting.give_up(refusal.as_slice()).is_ok());
-        }
-    }
 }

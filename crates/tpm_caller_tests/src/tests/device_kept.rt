@@ -13,7 +13,7 @@
 use crate::tests::caller_scripts::{owner, run};
 use std::test::*;
 use tpm_device::{Device, changes_nv};
-use tpm_testing::{next_bytes, next_number, next_value, spelled};
+use tpm_testing::{bytes, is_spelled, next_number, next_value, spelled, word};
 use tpm_types::{Alg, SessionHandle};
 use tpm_wire::{Buffer, Refusal};
 
@@ -28,15 +28,12 @@ pub fn is_asked(device: &mut Device, asked: &str, mut rest: &str) -> bool {
         "made-not" => is_not_made(rest),
         "same" => is_told(device, rest) == Some(false),
         "changed" => is_told(device, rest) == Some(true),
-        "changing" => changes(rest),
-        "changing-not" => !changes(rest),
-        "kept" => kept(device).as_slice() == spelled(rest).as_slice(),
+        "changing" => changes(rest) == Some(true),
+        "changing-not" => changes(rest) == Some(false),
+        "kept" => is_spelled(kept(device).as_slice(), rest),
         "greatest" => device.greatest() == next_number(&mut rest) as u64,
         "counter" => is_first(device, rest),
-        "session" => match next_value::<SessionHandle>(&mut rest) {
-            Some(session) => device.session_hash(session) == next_value::<Alg>(&mut rest),
-            None => false,
-        },
+        "session" => has_hash(device, rest),
         _ => false,
     }
 }
@@ -55,20 +52,36 @@ fn is_told(device: &mut Device, line: &str) -> Option<bool> {
     let before = kept(device);
     let response = device.execute(command.as_slice(), &[0; 64]);
     let is_changed = kept(device).as_slice() != before.as_slice();
-    let is_so = response.as_slice() == spelled(expected).as_slice()
+    let is_so = is_spelled(response.as_slice(), expected)
         && changes_nv(command.as_slice(), response.as_slice()) == is_changed;
     if is_so { Some(is_changed) } else { None }
 }
 
-fn changes(mut rest: &str) -> bool {
-    let command = next_bytes(&mut rest);
-    changes_nv(command.as_slice(), spelled(rest).as_slice())
+// Whether the call tells a change, of a command and a response. It is none where a word is misspelled.
+fn changes(mut rest: &str) -> Option<bool> {
+    match (bytes(word(&mut rest)), bytes(rest)) {
+        (Some(command), Some(response)) => {
+            Some(changes_nv(command.as_slice(), response.as_slice()))
+        }
+        _ => None,
+    }
+}
+
+fn has_hash(device: &Device, mut rest: &str) -> bool {
+    match next_value::<SessionHandle>(&mut rest) {
+        Some(session) => match device.session_hash(session) {
+            Some(hash) => next_value::<Alg>(&mut rest) == Some(hash),
+            None => rest == "-",
+        },
+        None => false,
+    }
 }
 
 fn is_first(device: &Device, mut rest: &str) -> bool {
     match device.counters().first() {
         Some(counter) => {
             counter.public().index.number() == next_number(&mut rest)
+                && counter.value().is_some()
                 && counter.value() == next_value::<u64>(&mut rest)
         }
         None => false,

@@ -3,24 +3,31 @@
 use crate::tests::session_scripts::run;
 use std::test::*;
 use tpm_hmac::{hash, hmac, kdfa, same, trim};
-use tpm_testing::{next_bytes, next_value};
+use tpm_testing::{bytes, is_spelled, next_bytes, next_value, word};
 use tpm_types::Alg;
 
 /// Whether the line's hash, HMAC or derived key is so.
 pub fn is_hashed(what: &str, mut rest: &str) -> bool {
-    let alg = next_value::<Alg>(&mut rest).unwrap_or_default();
-    let first = next_bytes(&mut rest);
-    let second = next_bytes(&mut rest);
-    let (first, second) = (first.as_slice(), second.as_slice());
-    match what {
-        "hash" => hash(alg, &[first]).as_slice() == second,
-        "hmac" => hmac(alg, first, &[second]).as_slice() == next_bytes(&mut rest).as_slice(),
-        "kdfa" => is_derived(alg, first, second, rest),
+    match (next_value::<Alg>(&mut rest), bytes(word(&mut rest))) {
+        (Some(alg), Some(first)) => is_result(what, alg, first.as_slice(), rest),
         _ => false,
     }
 }
 
-fn is_derived(alg: Alg, key: &[u8], label: &[u8], mut rest: &str) -> bool {
+fn is_result(what: &str, alg: Alg, first: &[u8], mut rest: &str) -> bool {
+    match what {
+        "hash" => is_spelled(hash(alg, &[first]).as_slice(), rest),
+        "hmac" => {
+            let text = next_bytes(&mut rest);
+            is_spelled(hmac(alg, first, &[text.as_slice()]).as_slice(), rest)
+        }
+        "kdfa" => is_derived(alg, first, rest),
+        _ => false,
+    }
+}
+
+fn is_derived(alg: Alg, key: &[u8], mut rest: &str) -> bool {
+    let label = next_bytes(&mut rest);
     let context_u = next_bytes(&mut rest);
     let context_v = next_bytes(&mut rest);
     let expected = next_bytes(&mut rest);
@@ -29,12 +36,12 @@ fn is_derived(alg: Alg, key: &[u8], label: &[u8], mut rest: &str) -> bool {
     kdfa(
         alg,
         key,
-        label,
+        label.as_slice(),
         context_u.as_slice(),
         context_v.as_slice(),
         derived,
     );
-    *derived == *expected.as_slice()
+    !expected.is_empty() && *derived == *expected.as_slice()
 }
 
 #[test]

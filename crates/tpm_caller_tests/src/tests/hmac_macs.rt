@@ -3,7 +3,7 @@
 use crate::tests::session_scripts::run;
 use std::test::*;
 use tpm_hmac::{SessionKey, command_mac, cp_hash, response_mac, rp_hash};
-use tpm_testing::{next_bytes, next_number, next_value, spelled, word};
+use tpm_testing::{bytes, next_bytes, next_number, next_value, word};
 use tpm_types::{Alg, CommandCode, Digest, Name, SessionAttrs};
 
 // A command or a response a line: its hash, the session key, the authorization value, the code, the
@@ -40,8 +40,11 @@ mac command 0004 01020304 6100620000 00000129 - - 000102030405060708090a0b0c0d0e
 mac response 0004 01020304 6100620000 00000129 - - 000102030405060708090a0b0c0d0e0f10111213 a0a1a2a3 b0b1b2b3b4 01 4d0b2dd8c68d5592d00db1963251da36bb7b5768";
 
 /// The Name of these bytes, or none where they are no Name.
-pub fn name(text: &str) -> Name {
-    Name::new(spelled(text).as_slice()).unwrap_or_default()
+pub fn name(text: &str) -> Option<Name> {
+    match bytes(text) {
+        Some(bytes) => Name::new(bytes.as_slice()),
+        None => None,
+    }
 }
 
 // cpHash of a command or rpHash of a response.
@@ -53,10 +56,18 @@ fn p_hash(side: &str, alg: Alg, code: CommandCode, rest: &mut &str) -> Digest {
         Some((first, second)) => cp_hash(
             alg,
             code,
-            &[name(first), name(second)],
+            &[
+                name(first).unwrap_or_default(),
+                name(second).unwrap_or_default(),
+            ],
             params.as_slice(),
         ),
-        None => cp_hash(alg, code, &[name(names)], params.as_slice()),
+        None => cp_hash(
+            alg,
+            code,
+            &[name(names).unwrap_or_default()],
+            params.as_slice(),
+        ),
     }
 }
 
@@ -87,7 +98,9 @@ fn ends_in_the_mac(side: &str, alg: Alg, keys: (Digest, Digest), mut rest: &str)
 /// Whether the hash and the MAC of a line are so.
 pub fn is_authentic(mut rest: &str) -> bool {
     let side = word(&mut rest);
-    let alg = next_value::<Alg>(&mut rest).unwrap_or_default();
+    let Some(alg) = next_value::<Alg>(&mut rest) else {
+        return false;
+    };
     let keys = (digest(&mut rest), digest(&mut rest));
     let code = next_number(&mut rest);
     let is_hashed = match CommandCode::from_number(code) {

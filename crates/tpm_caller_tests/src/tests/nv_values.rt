@@ -17,7 +17,7 @@ use crate::tests::session_calls::code;
 use crate::tests::session_scripts::run;
 use std::test::*;
 use tpm_nv::{By, Counters, KEPT_BYTES};
-use tpm_testing::{next_bytes, next_number, next_value, spelled, word};
+use tpm_testing::{bytes, is_spelled, next_number, next_value, spelled, word};
 use tpm_types::{NvIndex, NvPublic};
 use tpm_wire::response_code::INTEGRITY;
 use tpm_wire::{Buffer, Refusal, Wire};
@@ -25,10 +25,13 @@ use tpm_wire::{Buffer, Refusal, Wire};
 /// Whether what the line says of counters is so.
 pub fn are_counters(counters: &mut Counters, asked: &str, mut rest: &str) -> bool {
     match asked {
-        "counters" => {
-            *counters = Counters::new(next_value::<u64>(&mut rest).unwrap_or(0));
-            true
-        }
+        "counters" => match next_value::<u64>(&mut rest) {
+            Some(greatest) => {
+                *counters = Counters::new(greatest);
+                true
+            }
+            None => false,
+        },
         "define" => is_defined(counters, rest),
         "first" => is_first(counters, rest),
         "keeps" => is_kept_as(counters, spelled(rest).as_slice()),
@@ -41,12 +44,12 @@ pub fn are_counters(counters: &mut Counters, asked: &str, mut rest: &str) -> boo
 }
 
 fn is_defined(counters: &mut Counters, mut rest: &str) -> bool {
-    match next_value::<NvPublic>(&mut rest) {
-        Some(public) => {
-            let defined = counters.define(&public, next_bytes(&mut rest).as_slice());
+    match (next_value::<NvPublic>(&mut rest), bytes(word(&mut rest))) {
+        (Some(public), Some(auth)) => {
+            let defined = counters.define(&public, auth.as_slice());
             code(defined) == next_number(&mut rest)
         }
-        None => false,
+        _ => false,
     }
 }
 
@@ -54,6 +57,7 @@ fn is_first(counters: &Counters, mut rest: &str) -> bool {
     match counters.as_slice().first() {
         Some(counter) => {
             counter.has_auth()
+                && counter.value().is_some()
                 && counter.value() == next_value::<u64>(&mut rest)
                 && counter.public().attrs.number() == next_number(&mut rest)
         }
@@ -66,10 +70,11 @@ fn is_counter(counters: &mut Counters, index: NvIndex, asked: &str, mut rest: &s
         "undefine" => code(counters.undefine(index)) == next_number(&mut rest),
         "increment" => is_incremented(counters, index, rest),
         "read" => is_read(counters, index, rest),
-        "auth" => counters.auth(index) == Some(spelled(rest).as_slice()),
-        "name" => {
-            counters.name(index).unwrap_or_default().as_slice() == spelled(rest).as_slice()
-        }
+        "auth" => match counters.auth(index) {
+            Some(auth) => is_spelled(auth, rest),
+            None => false,
+        },
+        "name" => is_spelled(counters.name(index).unwrap_or_default().as_slice(), rest),
         "attributes" => match counters.public(index) {
             Some(public) => public.attrs.number() == next_number(&mut rest),
             None => false,
@@ -93,12 +98,13 @@ fn is_incremented(counters: &mut Counters, index: NvIndex, mut rest: &str) -> bo
 fn is_read(counters: &Counters, index: NvIndex, mut rest: &str) -> bool {
     let by = match word(&mut rest) {
         "owner" => By::Owner,
-        _ => By::Index(index),
+        "index" => By::Index(index),
+        _ => return false,
     };
     let size = next_value::<u16>(&mut rest).unwrap_or(0);
     let offset = next_value::<u16>(&mut rest).unwrap_or(0);
     match counters.read(index, by, size, offset) {
-        Ok(bytes) => bytes.as_slice() == spelled(rest).as_slice(),
+        Ok(bytes) => is_spelled(bytes.as_slice(), rest),
         Err(_) => rest == "refused",
     }
 }

@@ -13,7 +13,7 @@ use crate::tests::session_calls::code;
 use crate::tests::session_scripts::run;
 use std::test::*;
 use tpm_pcr::{Locality, Registers};
-use tpm_testing::{next_bytes, next_number, next_value, spelled};
+use tpm_testing::{is_spelled, next_bytes, next_number, next_value};
 use tpm_types::{Alg, PcrIndex, Selections};
 use tpm_wire::Buffer;
 
@@ -26,36 +26,44 @@ pub fn are_registers(registers: &mut Registers, asked: &str, mut rest: &str) -> 
         }
         "updates" => registers.update_counter() == next_number(&mut rest),
         "event" => is_measured(registers, rest),
-        "reset" => {
-            let register = next_value::<PcrIndex>(&mut rest).unwrap_or_default();
-            code(registers.reset(register)) == next_number(&mut rest)
-        }
-        "register" => {
-            let alg = next_value::<Alg>(&mut rest).unwrap_or_default();
-            let register = next_value::<PcrIndex>(&mut rest).unwrap_or_default();
-            registers.read(alg, register).as_slice() == spelled(rest).as_slice()
-        }
+        "reset" => match next_value::<PcrIndex>(&mut rest) {
+            Some(register) => code(registers.reset(register)) == next_number(&mut rest),
+            None => false,
+        },
+        "register" => match (
+            next_value::<Alg>(&mut rest),
+            next_value::<PcrIndex>(&mut rest),
+        ) {
+            (Some(alg), Some(register)) => {
+                is_spelled(registers.read(alg, register).as_slice(), rest)
+            }
+            _ => false,
+        },
         _ => are_selected(registers, asked, rest),
     }
 }
 
 fn is_measured(registers: &mut Registers, mut rest: &str) -> bool {
-    let register = next_value::<PcrIndex>(&mut rest).unwrap_or_default();
+    let Some(register) = next_value::<PcrIndex>(&mut rest) else {
+        return false;
+    };
     let mut all = Buffer::new();
     if let Ok(digests) = registers.event(register, next_bytes(&mut rest).as_slice()) {
         for digest in digests.as_slice() {
             let _ = all.try_extend_from_slice(digest.digest());
         }
     }
-    all.as_slice() == spelled(rest).as_slice()
+    is_spelled(all.as_slice(), rest)
 }
 
 fn are_selected(registers: &Registers, asked: &str, mut rest: &str) -> bool {
     match asked {
         "composite" => {
-            let alg = next_value::<Alg>(&mut rest).unwrap_or_default();
+            let Some(alg) = next_value::<Alg>(&mut rest) else {
+                return false;
+            };
             let selections = next_value::<Selections>(&mut rest).unwrap_or_default();
-            registers.composite(alg, &selections).as_slice() == spelled(rest).as_slice()
+            is_spelled(registers.composite(alg, &selections).as_slice(), rest)
         }
         "select" => {
             let selections = next_value::<Selections>(&mut rest).unwrap_or_default();

@@ -8,7 +8,7 @@ use crate::tests::session_scripts::{Bench, run};
 use std::test::*;
 use tpm_buffer::{Areas, areas};
 use tpm_session::{Answered, Claim, Entity, NONCE_BYTES};
-use tpm_testing::{next_bytes, next_number, spelled, word};
+use tpm_testing::{is_spelled, next_bytes, next_number, spelled, word};
 use tpm_types::Name;
 
 // For the session of a reply: 40 to 4f, as long as the session's nonces, and zeros.
@@ -33,7 +33,7 @@ pub fn follows(bench: &Bench, mut rest: &str) -> bool {
     match held(&bench.sessions, &mut rest) {
         Some(session) => {
             let entity = entity(bench, word(&mut rest));
-            session.follows(&entity) == spelled(rest).as_slice()
+            is_spelled(session.follows(&entity), rest)
         }
         None => false,
     }
@@ -59,9 +59,12 @@ fn judged(bench: &Bench, entity: Entity<'_>, names: &[Name; 2], cut: &Areas<'_>)
 pub fn answers(bench: &Bench, mut rest: &str) -> bool {
     let entity = entity(bench, word(&mut rest));
     let handle = word(&mut rest);
+    let (Some(first), Some(second)) = (name(handle), name(handle)) else {
+        return false;
+    };
     let code = next_number(&mut rest);
     match areas(spelled(rest).as_slice()) {
-        Ok(cut) => judged(bench, entity, &[name(handle), name(handle)], &cut) == code,
+        Ok(cut) => judged(bench, entity, &[first, second], &cut) == code,
         Err(_) => false,
     }
 }
@@ -70,9 +73,9 @@ pub fn answers(bench: &Bench, mut rest: &str) -> bool {
 pub fn replies(bench: &Bench, mut rest: &str) -> bool {
     let entity = entity(bench, word(&mut rest));
     let params = next_bytes(&mut rest);
-    let nonce = next_bytes(&mut rest);
+    let nonce = word(&mut rest);
     let attrs = next_number(&mut rest);
-    let hmac = next_bytes(&mut rest);
+    let hmac = word(&mut rest);
     let command = spelled(rest);
     let Ok(cut) = areas(command.as_slice()) else {
         return false;
@@ -86,9 +89,9 @@ pub fn replies(bench: &Bench, mut rest: &str) -> bool {
         nonce: &NEXT,
     };
     let found = bench.sessions.reply_auth(&how, &entity, &answered);
-    found.nonce.as_slice() == nonce.as_slice()
+    is_spelled(found.nonce.as_slice(), nonce)
         && found.attrs.number() as u32 == attrs
-        && found.hmac.as_slice() == hmac.as_slice()
+        && is_spelled(found.hmac.as_slice(), hmac)
 }
 
 #[test]

@@ -4,7 +4,7 @@ use crate::tests::session_scripts::Bench;
 use tpm_buffer::{areas, decode_command};
 use tpm_commands::{CommandBody, StartAuth};
 use tpm_session::{NONCE_BYTES, Session, Sessions};
-use tpm_testing::{next_number, next_value, spelled};
+use tpm_testing::{is_spelled, next_number, next_value, spelled};
 use tpm_types::{Alg, Digest, PcrOrNull, PolicyHandle, SessionHandle};
 
 /// The owner's authorization value, with zeros that are no part of it.
@@ -120,7 +120,7 @@ fn policy_digest(sessions: &Sessions, handle: u32) -> Result<Digest, u32> {
 /// Whether the policy session in slot 0 has this policy digest.
 pub fn has_digest(sessions: &Sessions, expected: &str) -> bool {
     match policy_digest(sessions, 0x0300_0000) {
-        Ok(digest) => digest.as_slice() == spelled(expected).as_slice(),
+        Ok(digest) => is_spelled(digest.as_slice(), expected),
         Err(_) => false,
     }
 }
@@ -134,7 +134,7 @@ pub fn has_no_digest(sessions: &Sessions, mut rest: &str) -> bool {
 /// Whether the session of this handle has this nonce.
 pub fn has_nonce(sessions: &Sessions, mut rest: &str) -> bool {
     match held(sessions, &mut rest) {
-        Some(session) => session.nonce() == spelled(rest).as_slice(),
+        Some(session) => is_spelled(session.nonce(), rest),
         None => false,
     }
 }
@@ -144,7 +144,7 @@ pub fn has_key(sessions: &Sessions, mut rest: &str) -> bool {
     match held(sessions, &mut rest) {
         Some(session) => {
             next_value::<Alg>(&mut rest) == Some(session.hash())
-                && session.key() == spelled(rest).as_slice()
+                && is_spelled(session.key(), rest)
                 && session.nonce() == &FRESH[..16]
         }
         None => false,

@@ -3,7 +3,8 @@
 //! Each line is a word and what it is about; one that begins with `#` says what the next are about.
 //! Numbers and bytes are hexadecimal, and `-` is no byte.
 //!
-//! - `new`: from here on, sessions and registers as they are at first; `begin`: and the policy session of the run.
+//! - `new`: from here on, sessions and registers as they are at first. `begin`: sessions as they are at first, and the
+//!   policy session of the run.
 //! - `command CODE BYTES`: this command on sessions or registers is answered with this code, 0 where it is done.
 //! - `started HANDLE BYTES`: this TPM2_StartAuthSession is answered with this handle.
 //! - `kept HANDLE` and `ended HANDLE`: after a command that the session authorized, with
@@ -40,8 +41,8 @@ use std::test::*;
 use tpm_nv::{COUNTER_BYTES, Counters, Definition};
 use tpm_pcr::Registers;
 use tpm_session::Sessions;
-use tpm_testing::{next_bytes, next_number, spelled, word};
-use tpm_types::{DIGEST_BYTES, NvPublic};
+use tpm_testing::{bytes, next_number, next_value, spelled, word};
+use tpm_types::{DIGEST_BYTES, NvPublic, SessionHandle};
 use tpm_wire::take_whole;
 
 /// Sessions, registers and counters, what an index is defined with, and how a policy session is started.
@@ -78,7 +79,9 @@ pub fn run_of(rt: &impl Abort, policy: &'static str, script: &str) {
 // What an index is defined with, by its authorization value and its TPM2B_NV_PUBLIC; none where it is not that of a
 // counter.
 fn definition(mut rest: &str) -> Option<Definition> {
-    let auth = next_bytes(&mut rest);
+    let Some(auth) = bytes(word(&mut rest)) else {
+        return None;
+    };
     match take_whole::<NvPublic>(spelled(rest).as_slice()) {
         Ok(public) if public.data_size as usize == COUNTER_BYTES && auth.len() <= DIGEST_BYTES => {
             Some(Definition::new(&public, auth.as_slice()))
@@ -117,7 +120,10 @@ fn step(bench: &mut Bench, line: &str) -> bool {
 fn is_so(bench: &mut Bench, asked: &str, mut rest: &str) -> bool {
     match asked {
         "loaded" => held(&bench.sessions, &mut rest).is_some(),
-        "absent" => held(&bench.sessions, &mut rest).is_none(),
+        "absent" => match next_value::<SessionHandle>(&mut rest) {
+            Some(session) => bench.sessions.get(session).is_none(),
+            None => false,
+        },
         "nonce" => has_nonce(&bench.sessions, rest),
         "key" => has_key(&bench.sessions, rest),
         "digest" => has_digest(&bench.sessions, rest),
