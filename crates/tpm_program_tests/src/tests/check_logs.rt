@@ -1,11 +1,11 @@
 //! A log whose read fails beside a list that isn't read, and a list that is too long.
 
-use crate::tests::output_runs::{LOG, check_beside, check_list, held};
+use crate::tests::output_runs::{LOG, check_beside, check_list};
 use std::process::Abort;
 use std::test::Fail;
 use tpm_output::fault::ToolFault;
 use tpm_output::status::Status;
-use tpm_testing::Pieces;
+use tpm_testing::{Pieces, spelled};
 
 // This is answered to the log, and nothing is read of a list.
 fn answers(
@@ -20,7 +20,7 @@ fn answers(
 
 #[test]
 fn a_list_is_read_behind_the_log_alone(rt: HostRuntime) {
-    let log = held(LOG);
+    let log = spelled(LOG);
     for done in 0..=log.len() {
         let input = &mut Pieces::failing(log.as_slice(), 1, done + 1);
         answers(&rt, input, Err(ToolFault::Read));

@@ -1,13 +1,13 @@
 //! A long log, whose records are written in pieces.
 
-use crate::tests::output_runs::{ALL, LOG, held};
+use crate::tests::output_runs::{ALL, LOG};
 use std::alloc::Global;
 use std::io;
 use std::io::Write;
 use std::test::Fail;
 use tpm_events::list_events;
 use tpm_output::status::Status;
-use tpm_testing::Pieces;
+use tpm_testing::{Pieces, spelled};
 
 // How many bytes the line of the log's last record has, with its line feed.
 const LINE: usize = 304;
@@ -35,7 +35,7 @@ impl Write for Noting {
 
 // The log, and its last record, which begins behind 89 bytes, 500 times more.
 fn long_log(alloc: Global) -> Result<Vec<u8>, Fail> {
-    let bytes = held(LOG);
+    let bytes = spelled(LOG);
     let (_, record) = bytes.as_slice().split_at(bytes.len().min(89));
     let mut log = Vec::new(alloc);
     log.extend_from_slice(bytes.as_slice())?;

@@ -385,6 +385,7 @@ check-list
 > match sha256 7
 > quote matches
 @ 59 110 195
+~ 345
 %
 # An endless list ends with its first line that is wrong, and an endless line when it is too long for one.
 check-list

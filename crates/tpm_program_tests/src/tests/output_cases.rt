@@ -1,19 +1,20 @@
 //! A call of a subcommand, with what it reads, writes and answers.
 
-use crate::tests::output_runs::{LOG, held};
+use crate::tests::output_runs::LOG;
 use std::process::Abort;
 use std::test::*;
 use tpm_output::fault::ToolFault;
 use tpm_output::status::Status;
-use tpm_testing::{Pieces, number, word};
+use tpm_testing::{Pieces, bytes, word};
 use tpm_wire::Buffer;
 
 /// A call, what it reads and writes, and what it answers.
 #[derive(Drop)]
 pub(crate) struct Case<'a> {
     pub(crate) call: &'a str,
-    // the byte, and how often it comes before the lines
-    before: &'a str,
+    // a byte, and how often it comes before the lines
+    byte: u8,
+    times: usize,
     lines: Buffer,
     pub(crate) text: Buffer,
     answer: &'a str,
@@ -30,7 +31,8 @@ impl<'a> Case<'a> {
     pub(crate) fn of(rt: &impl Abort, lines: &'a str) -> Self {
         let mut case = Case {
             call: "",
-            before: "",
+            byte: 0,
+            times: 0,
             lines: Buffer::new(),
             text: Buffer::new(),
             answer: "Done",
@@ -48,10 +50,10 @@ impl<'a> Case<'a> {
         match sign {
             "<" => put(&mut self.lines, rest.as_bytes()) && put(&mut self.lines, b"\n"),
             "<." => put(&mut self.lines, rest.as_bytes()),
-            "<x" => put(
-                &mut self.lines,
-                held(if rest == "LOG" { LOG } else { rest }).as_slice(),
-            ),
+            "<x" => match bytes(if rest == "LOG" { LOG } else { rest }) {
+                Some(bytes) => put(&mut self.lines, bytes.as_slice()),
+                None => false,
+            },
             ">" => put(&mut self.text, rest.as_bytes()) && put(&mut self.text, b"\n"),
             ">." => put(&mut self.text, rest.as_bytes()),
             _ => self.takes_other(sign, line, rest),
@@ -60,27 +62,38 @@ impl<'a> Case<'a> {
 
     fn takes_other(&mut self, sign: &str, line: &'a str, rest: &'a str) -> bool {
         match sign {
-            "*" => self.before = rest,
+            "*" => return self.takes_before(rest),
             "=" => self.answer = rest,
             "@" => self.told = rest,
-            "~" => self.reads = rest.parse().unwrap_or(0),
+            "~" => match rest.parse() {
+                Ok(reads) => self.reads = reads,
+                Err(_) => return false,
+            },
             "#" | "" => {}
             _ => self.call = line,
         }
         true
     }
 
+    fn takes_before(&mut self, mut rest: &str) -> bool {
+        match (u8::from_str_radix(word(&mut rest), 16), rest.parse()) {
+            (Ok(byte), Ok(times)) => {
+                self.byte = byte;
+                self.times = times;
+                true
+            }
+            _ => false,
+        }
+    }
+
     /// Whether bytes come before the lines, more than may be read in each way.
     pub(crate) fn is_long(&self) -> bool {
-        !self.before.is_empty()
+        self.times > 0
     }
 
     /// What is read, at most so many bytes a read.
     pub(crate) fn input(&self, most: usize) -> Pieces<'_> {
-        let mut before = self.before;
-        let byte = number(word(&mut before)).unwrap_or(0);
-        let times = before.parse().unwrap_or(0);
-        Pieces::behind((byte % 256) as u8, times, self.lines.as_slice(), most)
+        Pieces::behind(self.byte, self.times, self.lines.as_slice(), most)
     }
 
     /// Whether this is the answer.

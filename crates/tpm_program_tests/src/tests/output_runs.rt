@@ -14,9 +14,9 @@ use tpm_output::form::Form;
 use tpm_output::status::Status;
 use tpm_script::{run_script, show_nv};
 use tpm_show::{Telling, build, show, show_fields, show_lines, show_stream};
-use tpm_testing::{Pieces, bytes};
+use tpm_testing::{Pieces, spelled};
 use tpm_types::{AuthValue, CommandCode};
-use tpm_wire::{Buffer, SliceSource, Source};
+use tpm_wire::{SliceSource, Source};
 
 /// The header, a record that extends nothing, and a separator at register 7.
 pub(crate) const LOG: &str =
@@ -77,11 +77,6 @@ fn asked<'a, 'o>(
     }
 }
 
-/// The bytes of hexadecimal digits.
-pub(crate) fn held(digits: &str) -> Buffer {
-    bytes(digits).unwrap_or_default()
-}
-
 /// What the call answers, and writes to `out`.
 pub(crate) fn run<W: Write>(
     alloc: Global,
@@ -95,7 +90,7 @@ pub(crate) fn run<W: Write>(
         "show-reply" => show(alloc, out, Some(CommandCode::PcrReset), words),
         "show-fields" => show_fields(alloc, out, None, words),
         "show-reply-fields" => show_fields(alloc, out, Some(CommandCode::NvRead), words),
-        "show-nv" => show_nv(alloc, out, held(words).as_slice()),
+        "show-nv" => show_nv(alloc, out, spelled(words).as_slice()),
         "build" => Ok(build(alloc, out, CommandCode::Startup, "-", "-", words)?.status),
         "not-hexadecimal" => not_hexadecimal(alloc, out),
         "list" => is_list(read_list(alloc, input)?, words),
@@ -143,7 +138,7 @@ fn run_on<W: Write>(
         "boot" => check_quoted(alloc, input, &mut SliceSource::new(EXTENDS.as_bytes()), out),
         "boot-list" => check_quoted(
             alloc,
-            &mut SliceSource::new(held(LOG).as_slice()),
+            &mut SliceSource::new(spelled(LOG).as_slice()),
             input,
             out,
         ),
@@ -159,7 +154,7 @@ fn check_quoted<L: Source, F: Source, W: Write>(
     out: &mut W,
 ) -> Result<Status, ToolFault> {
     let allow = read_list(alloc, list)?;
-    let attest = held(ATTEST);
+    let attest = spelled(ATTEST);
     let options = options(None, true, Form::Json);
     let asked = asked(&options, Some(attest.as_slice()), Some(&allow));
     check_boot(alloc, log, &asked, out)
@@ -188,7 +183,7 @@ pub(crate) fn check_list<W: Write>(
     list: &mut Pieces<'_>,
     out: &mut W,
 ) -> Result<Status, ToolFault> {
-    let log = held(LOG);
+    let log = spelled(LOG);
     let mut lent = Some(mem::replace(list, Pieces::new(&[], 1)));
     let answer = check_beside(alloc, &mut SliceSource::new(log.as_slice()), &mut lent, out);
     if let Some(lent) = lent {
