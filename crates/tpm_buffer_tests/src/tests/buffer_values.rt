@@ -1,5 +1,6 @@
 //! Commands and responses: their values, their areas, and parameters alone. Each row is a word, bytes, and what they
-//! are told as, one value behind the other and without its size. Numbers and bytes are hexadecimal, and `-` is no byte.
+//! are told as, one value behind the other and without its size. Numbers and bytes are hexadecimal. A row fails where
+//! nothing is told, as of a word that is none of these, or of bytes that aren't taken and whose fault isn't told.
 //!
 //! - `command BYTES`: the values of a command that has several of one kind, whose spelling the bytes are.
 //! - `reply CODE BYTES`: the same of a reply to the command with this code.
@@ -8,9 +9,9 @@
 //! - `areas CODE BYTES`: of a response its code, its handle, how many sessions there are, and where the parameters are,
 //!   with their bytes; or its fault.
 //! - `session PLACE BYTES` and `answered PLACE BYTES`: the session there of a command, and of a reply to
-//!   StartAuthSession.
-//! - `params CODE BYTES` and `start BYTES`: parameters alone, of the command with this code and of StartAuthSession; or
-//!   their fault, with its place.
+//!   StartAuthSession; or `ff` where there is none.
+//! - `params CODE BYTES`, `params-into CODE BYTES` and `start BYTES`: parameters alone, of the command with this code,
+//!   the same in place of others, and of StartAuthSession; or their fault, with its place.
 
 use std::test::*;
 use tpm_buffer::{
@@ -21,7 +22,7 @@ use tpm_commands::{
     CommandBody, CommandTable, Params, PolicyPcr, ReplyBody, Response, StartParams, decode_params,
     decode_params_into, decode_start_into,
 };
-use tpm_testing::{next_number, next_value, spelled, word};
+use tpm_testing::{is_spelled, next_number, next_value, spelled, word};
 use tpm_types::{Alg, CommandCode, Nonce, SessionType, SymDef};
 use tpm_wire::{Buffer, Refusal};
 
@@ -184,38 +185,48 @@ fn put_reply_areas(told: &mut Buffer, code: CommandCode, bytes: &[u8]) {
     }
 }
 
-// The session at this place of a command. Its areas are dropped here.
-fn session(bytes: &[u8], place: usize) -> Option<AuthRef<'_>> {
+// The session at this place of a command, if there is one. Its areas are dropped here.
+fn session(bytes: &[u8], place: usize) -> Result<Option<AuthRef<'_>>, Refusal> {
     match areas(bytes) {
-        Ok(cut) => cut.auth(place),
-        Err(_) => None,
+        Ok(cut) => Ok(cut.auth(place)),
+        Err(fault) => Err(fault),
     }
 }
 
 // The same of a response to StartAuthSession.
-fn reply_session(bytes: &[u8], place: usize) -> Option<ReplyRef<'_>> {
+fn reply_session(bytes: &[u8], place: usize) -> Result<Option<ReplyRef<'_>>, Refusal> {
     match reply_areas(CommandCode::StartAuthSession, bytes) {
-        Ok(cut) => cut.auth(place),
-        Err(_) => None,
+        Ok(cut) => Ok(cut.auth(place)),
+        Err(fault) => Err(fault),
     }
 }
 
 fn put_session(told: &mut Buffer, mut row: &str) {
-    let place = next_value::<u8>(&mut row).unwrap_or(0) as usize;
-    if let Some(auth) = session(spelled(row).as_slice(), place) {
-        put_number(told, auth.session().number());
-        put(told, auth.nonce());
-        put(told, &[auth.attrs().number()]);
-        put(told, auth.hmac());
+    if let Some(place) = next_value::<u8>(&mut row) {
+        match session(spelled(row).as_slice(), place as usize) {
+            Ok(Some(auth)) => {
+                put_number(told, auth.session().number());
+                put(told, auth.nonce());
+                put(told, &[auth.attrs().number()]);
+                put(told, auth.hmac());
+            }
+            Ok(None) => put(told, &[0xFF]),
+            Err(_) => {}
+        }
     }
 }
 
 fn put_reply_session(told: &mut Buffer, mut row: &str) {
-    let place = next_value::<u8>(&mut row).unwrap_or(0) as usize;
-    if let Some(auth) = reply_session(spelled(row).as_slice(), place) {
-        put(told, auth.nonce());
-        put(told, &[auth.attrs().number()]);
-        put(told, auth.hmac());
+    if let Some(place) = next_value::<u8>(&mut row) {
+        match reply_session(spelled(row).as_slice(), place as usize) {
+            Ok(Some(auth)) => {
+                put(told, auth.nonce());
+                put(told, &[auth.attrs().number()]);
+                put(told, auth.hmac());
+            }
+            Ok(None) => put(told, &[0xFF]),
+            Err(_) => {}
+        }
     }
 }
 
@@ -286,12 +297,15 @@ fn tell_of(told: &mut Buffer, asked: &str, code: CommandCode, bytes: &[u8]) {
 
 // Whether a row is told so, or says what the next are about.
 fn is_told(line: &str) -> bool {
+    if line.is_empty() || line.starts_with('#') {
+        return true;
+    }
     let Some((row, expected)) = line.split_once(": ") else {
-        return line.is_empty() || line.starts_with('#');
+        return false;
     };
     let mut told = Buffer::new();
     tell(&mut told, row);
-    told.as_slice() == spelled(expected).as_slice()
+    !told.is_empty() && is_spelled(told.as_slice(), expected)
 }
 
 #[test]
@@ -324,10 +338,10 @@ fn commands_and_responses_have_their_values_and_areas(rt: HostRuntime) {
         # An HMAC session, and a policy session with each attribute there is; and no third
         session 00 8002 0000002a 0000013d 00000010 00000018 02000001 0002 a1a2 20 0003 b1b2b3 03000002 0001 c1 e7 0000: 02000001 a1a2 20 b1b2b3
         session 01 8002 0000002a 0000013d 00000010 00000018 02000001 0002 a1a2 20 0003 b1b2b3 03000002 0001 c1 e7 0000: 03000002 c1 e7
-        session 02 8002 0000002a 0000013d 00000010 00000018 02000001 0002 a1a2 20 0003 b1b2b3 03000002 0001 c1 e7 0000: -
+        session 02 8002 0000002a 0000013d 00000010 00000018 02000001 0002 a1a2 20 0003 b1b2b3 03000002 0001 c1 e7 0000: ff
         answered 00 8002 00000022 00000000 03000001 00000003 000161 0002 a1a2 20 0001 b1 0000 01 0000: a1a2 20 b1
         answered 01 8002 00000022 00000000 03000001 00000003 000161 0002 a1a2 20 0001 b1 0000 01 0000: 01
-        answered 02 8002 00000022 00000000 03000001 00000003 000161 0002 a1a2 20 0001 b1 0000 01 0000: -
+        answered 02 8002 00000022 00000000 03000001 00000003 000161 0002 a1a2 20 0001 b1 0000 01 0000: ff
         # Parameters alone: places are counted from their first byte.
         params-into 0000014e 00080102: 0008 0102
         params 0000017f 0002 c1c2 00000001 000b 03 800000: c1c2 000b 800000

@@ -3,7 +3,7 @@
 use std::process::Abort;
 use std::test::*;
 use tpm_stream::{Framer, FramerState, ReadFault, read_frame, read_frame_into};
-use tpm_testing::{Pieces, spelled};
+use tpm_testing::{Pieces, bytes, is_spelled, spelled};
 use tpm_wire::{Buffer, Reads, Refusal, SliceSource, Source};
 
 /// PCR_Read of register 0 in SHA-256, of 20 bytes.
@@ -96,10 +96,13 @@ fn status(text: &str) -> FramerState {
 // Whether the line comes true.
 fn step(framer: &mut Framer, line: &str) -> bool {
     match line.split_once(" -> ") {
-        Some(("frame", wanted)) => framer.frame().unwrap_or(&[]) == spelled(wanted).as_slice(),
+        Some(("frame", wanted)) => is_spelled(framer.frame().unwrap_or(&[]), wanted),
         Some((piece, wanted)) => {
+            let Some(piece) = bytes(piece) else {
+                return false;
+            };
             let (taken, said) = wanted.split_once(' ').unwrap_or(("", ""));
-            let (count, answer) = framer.push(spelled(piece).as_slice());
+            let (count, answer) = framer.push(piece.as_slice());
             taken.parse() == Ok(count) && answer == status(said)
         }
         None => {

@@ -2,7 +2,7 @@
 
 ghost use Rattle.std.specs.Prelude.{◌≤◌};
 
-use tpm_testing::spelled;
+use tpm_testing::{bytes, spelled};
 use tpm_wire::{
     Buffer, Cursor, Refusal, Wire, no_prefix, one_reading, one_reading_within, take_whole,
     taken_back,
@@ -58,18 +58,20 @@ fn refuses<T: Wire + Drop>(bytes: &[u8], code: u16, at: u8) -> bool {
 /// have a fault with this code of two bytes at this place of one byte.
 pub fn row<T: Wire + Drop>(line: &str) -> bool {
     match (line.split_once(" refused "), line.split_once(" taken")) {
-        (Some((bytes, refusal)), _) => match spelled(refusal).as_slice() {
-            [high, low, at] => {
+        (Some((text, refusal)), _) => match (bytes(text), spelled(refusal).as_slice()) {
+            (Some(bytes), [high, low, at]) => {
                 let code = u16::from_be_bytes([*high, *low]);
-                refuses::<T>(spelled(bytes).as_slice(), code, *at)
+                refuses::<T>(bytes.as_slice(), code, *at)
             }
             _ => false,
         },
-        (None, Some((bytes, places))) => {
-            let bytes = spelled(bytes);
-            let bytes = bytes.as_slice();
-            goes_both_ways::<T>(bytes) && begins_are_short::<T>(bytes, spelled(places).as_slice())
-        }
+        (None, Some((text, places))) => match (bytes(text), bytes(places)) {
+            (Some(bytes), Some(places)) => {
+                goes_both_ways::<T>(bytes.as_slice())
+                    && begins_are_short::<T>(bytes.as_slice(), places.as_slice())
+            }
+            _ => false,
+        },
         _ => false,
     }
 }

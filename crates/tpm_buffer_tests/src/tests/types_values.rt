@@ -108,5 +108,10 @@ fn digests_that_are_read_in_place_of_others(rt: HostRuntime) {
         [one] => assert!(rt; one.hash() == Alg::Sha1 && one.digest() == [0x33; 20].as_slice()),
         _ => panic!(rt; "no list of one digest"),
     }
-    assert!(rt; !is_read(&mut values, "00000001") && is_read(&mut values, "00000000"));
+    assert!(rt;
+        values
+            .read(&mut Cursor::new(&[0x00, 0x00, 0x00, 0x01]))
+            .is_err()
+    );
+    assert!(rt; is_read(&mut values, "00000000"));
 }
