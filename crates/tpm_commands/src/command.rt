@@ -22,8 +22,8 @@ use crate::command_handles::{
     policy_in, register_in, second_handle, two_handles,
 };
 use crate::commands::{
-    Event, NvDefineSpace, NvRead, PolicyPcr, StartParams, nv, pcr, read_only, session, take_event,
-    take_only, take_startup, two_digests,
+    Event, NvDefineSpace, NvRead, PolicyPcr, StartParams, known_len, nv, pcr, read_only, session,
+    take_event, take_only, take_startup, two_digests,
 };
 use crate::response::{NvData, StartReply};
 use arrayvec::ArrayVec;
@@ -289,33 +289,18 @@ impl CommandBody<'_> {
                 event.has_spelling();
                 event.len()
             }
-            CommandBody::Startup(startup_type) => {
-                startup_type.has_spelling();
-                startup_type.len()
-            }
+            CommandBody::Startup(startup_type) => known_len(startup_type),
             CommandBody::NvRead { params, .. } => params.len(),
-            CommandBody::FlushContext(session) => {
-                session.has_spelling();
-                session.len()
-            }
+            CommandBody::FlushContext(session) => known_len(session),
             CommandBody::PolicyCommandCode { code, .. } => {
                 prove!(*code <= u32::MAX);
-                code.len()
+                known_len(code)
             }
-            CommandBody::PolicyOr { digests, .. } => {
-                digests.has_spelling();
-                digests.len()
-            }
+            CommandBody::PolicyOr { digests, .. } => known_len(digests),
             CommandBody::StartAuthSession(start) => start.params.len(),
-            CommandBody::PcrRead(selections) => {
-                selections.has_spelling();
-                selections.len()
-            }
+            CommandBody::PcrRead(selections) => known_len(selections),
             CommandBody::PolicyPcr { params, .. } => params.len(),
-            CommandBody::PcrExtend { digests, .. } => {
-                digests.has_spelling();
-                digests.len()
-            }
+            CommandBody::PcrExtend { digests, .. } => known_len(digests),
             CommandBody::NvUndefineSpace { .. }
             | CommandBody::NvIncrement { .. }
             | CommandBody::PcrReset { .. }
@@ -612,26 +597,10 @@ pub fn take_reply_handle(
         ≡ 4 * length (handle_list h) + length cursor.new.here.rest) }
     ensures there { IfOk result (HasHandle code) }
 {
-    match code {
-        CommandCode::StartAuthSession => Ok(Some(session::take_session_handle(cursor)?)),
-        CommandCode::NvUndefineSpace
-        | CommandCode::NvDefineSpace
-        | CommandCode::NvIncrement
-        | CommandCode::PcrEvent
-        | CommandCode::PcrReset
-        | CommandCode::Startup
-        | CommandCode::NvRead
-        | CommandCode::FlushContext
-        | CommandCode::NvReadPublic
-        | CommandCode::PolicyAuthValue
-        | CommandCode::PolicyCommandCode
-        | CommandCode::PolicyOr
-        | CommandCode::PcrRead
-        | CommandCode::PolicyPcr
-        | CommandCode::PolicyRestart
-        | CommandCode::PcrExtend
-        | CommandCode::PolicyGetDigest => Ok(None),
+    if code != CommandCode::StartAuthSession {
+        return Ok(None);
     }
+    Ok(Some(session::take_session_handle(cursor)?))
 }
 
 /// Reads the reply to a command with this code, of which the handle was read before, in the place of another one; or
@@ -720,23 +689,7 @@ impl ReplyBody {
     {
         match self {
             ReplyBody::StartAuthSession(reply) => reply.session.len(),
-            ReplyBody::NvUndefineSpace
-            | ReplyBody::NvDefineSpace
-            | ReplyBody::NvIncrement
-            | ReplyBody::PcrEvent(_)
-            | ReplyBody::PcrReset
-            | ReplyBody::Startup
-            | ReplyBody::NvRead(_)
-            | ReplyBody::FlushContext
-            | ReplyBody::NvReadPublic { .. }
-            | ReplyBody::PolicyAuthValue
-            | ReplyBody::PolicyCommandCode
-            | ReplyBody::PolicyOr
-            | ReplyBody::PcrRead { .. }
-            | ReplyBody::PolicyPcr
-            | ReplyBody::PolicyRestart
-            | ReplyBody::PcrExtend
-            | ReplyBody::PolicyGetDigest(_) => 0,
+            _ => 0,
         }
     }
 
@@ -777,14 +730,8 @@ impl ReplyBody {
         ensures spelled { (left : ℕ) → Fits left (parameters_of_reply self.now) self.now }
     {
         match self {
-            ReplyBody::PcrEvent(digests) => {
-                digests.has_spelling();
-                digests.len()
-            }
-            ReplyBody::NvRead(bytes) => {
-                bytes.has_spelling();
-                bytes.len()
-            }
+            ReplyBody::PcrEvent(digests) => known_len(digests),
+            ReplyBody::NvRead(bytes) => known_len(bytes),
             ReplyBody::NvReadPublic { public, name } => nv::nv_read_public_reply_len(public, name),
             ReplyBody::StartAuthSession(reply) => session::start_auth_session_reply_len(reply),
             ReplyBody::PcrRead {
@@ -792,10 +739,7 @@ impl ReplyBody {
                 selections,
                 digests,
             } => pcr::pcr_read_reply_len(*update_counter, selections, digests),
-            ReplyBody::PolicyGetDigest(digest) => {
-                digest.has_spelling();
-                digest.len()
-            }
+            ReplyBody::PolicyGetDigest(digest) => known_len(digest),
             ReplyBody::NvUndefineSpace
             | ReplyBody::NvDefineSpace
             | ReplyBody::NvIncrement

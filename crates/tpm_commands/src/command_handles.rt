@@ -200,10 +200,7 @@ impl CommandTable for CommandCode {
 pub fn register_in(handle: u32) -> PcrIndex
     ensures { result ≡ the_register handle }
 {
-    match PcrIndex::from_number(handle) {
-        Some(register) => register,
-        None => PcrIndex::default(),
-    }
+    PcrIndex::from_number(handle).unwrap_or(PcrIndex::default())
 }
 
 /// The NV index of this handle, or 0x01000000 for a handle of none (Part 2, 9.24).
@@ -230,10 +227,7 @@ pub fn policy_in(handle: u32) -> PolicyHandle
 pub fn pcr_or_null_in(handle: u32) -> PcrOrNull
     ensures { result ≡ the_pcr_or_null handle }
 {
-    match PcrOrNull::from_number(handle) {
-        Some(register) => register,
-        None => PcrOrNull::Null,
-    }
+    PcrOrNull::from_number(handle).unwrap_or(PcrOrNull::Null)
 }
 
 /// Who authorizes a command on an index by this handle, the owner or an index; the owner for a handle of neither (Part
@@ -241,10 +235,7 @@ pub fn pcr_or_null_in(handle: u32) -> PcrOrNull
 pub fn nv_auth_in(handle: u32) -> NvAuthHandle
     ensures { result ≡ the_nv_auth handle }
 {
-    match NvAuthHandle::from_number(handle) {
-        Some(by) => by,
-        None => NvAuthHandle::Owner,
-    }
+    NvAuthHandle::from_number(handle).unwrap_or(NvAuthHandle::Owner)
 }
 
 /// What a session is bound to by this handle, the owner or TPM_RH_NULL; TPM_RH_NULL for a handle of neither (Part 2,
@@ -252,28 +243,19 @@ pub fn nv_auth_in(handle: u32) -> NvAuthHandle
 pub fn bind_in(handle: u32) -> BindHandle
     ensures { result ≡ the_bind handle }
 {
-    match BindHandle::from_number(handle) {
-        Some(bind) => bind,
-        None => BindHandle::Null,
-    }
+    BindHandle::from_number(handle).unwrap_or(BindHandle::Null)
 }
 
 /// The first of the handles, or 0 where there is none.
 pub fn first_handle(handles: &[u32]) -> u32
     ensures { result ≡ first_of handles.now }
 {
-    match handles {
-        [handle, ..] => *handle,
-        [] => 0,
-    }
+    handles.first().copied().unwrap_or(0)
 }
 
 /// The second of the handles, or 0 where there is none.
 pub fn second_handle(handles: &[u32]) -> u32
     ensures { result ≡ second_of handles.now }
 {
-    match handles {
-        [_, handle, ..] => *handle,
-        _ => 0,
-    }
+    handles.get(1).copied().unwrap_or(0)
 }

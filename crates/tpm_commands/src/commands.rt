@@ -1,7 +1,7 @@
 //! What the chapters of Part 3 have of their own: structures of parameters, and replies of more than one.
 
-ghost use Rattle.std.specs.Prelude.{◌≡◌, ◌≤◌, ◌++◌, ◌∷◌, [], IfOk, OnOk};
-ghost use Rattle.tpm_wire.specs.Spelling.{spelling};
+ghost use Rattle.std.specs.Prelude.{◌≡◌, ◌≤◌, ◌++◌, ◌∷◌, [], ℕ, length, IfOk, OnOk};
+ghost use Rattle.tpm_wire.specs.Spelling.{spelling, Fits};
 ghost use Rattle.tpm_wire.specs.Buffers.{TakesNumbered, numbered};
 ghost use Rattle.tpm_wire.specs.ResponseCodes.{of_parameter as number_of_parameter};
 ghost use Rattle.tpm_wire.specs.Structures.{sized_bytes};
@@ -101,4 +101,15 @@ pub(crate) fn take_event<'a>(cursor: &mut Cursor<'a>) -> Result<Event<'a>, Refus
 {
     cursor.number(of_parameter(1));
     Event::take(cursor)
+}
+
+/// How many bytes its spelling has, which it has whatever is left.
+#[inline(always)]
+pub(crate) fn known_len<T: Wire>(value: &T) -> usize
+    ensures value { result ≡ length (spelling T.layout value.now) }
+    ensures fits { result ≤ T.most }
+    ensures spelled { (left : ℕ) → Fits left T.layout value.now }
+{
+    value.has_spelling();
+    value.len()
 }
