@@ -219,10 +219,7 @@ impl Sessions {
     {
         match slot {
             None => Ok(None),
-            Some(slot) => match self.in_slot(slot) {
-                Some(session) => Ok(Some(session)),
-                None => Err(REFERENCE_S0),
-            },
+            Some(slot) => Ok(Some(self.in_slot(slot).ok_or(REFERENCE_S0)?)),
         }
     }
 

@@ -104,11 +104,9 @@ impl Signed<'_> {
     fn needs_none(&self) -> bool
         ensures { result ≡ needs_none (signed_in self.now []) }
     {
-        if !self.auth.hmac().is_empty() {
-            return false;
-        }
-        let session = self.session;
-        session.key.as_slice().is_empty() && trim(self.follows).is_empty()
+        self.auth.hmac().is_empty()
+            && self.session.key().is_empty()
+            && trim(self.follows).is_empty()
     }
 
     // The MAC of a command or of a response under the session key and what follows it, by the key that was hashed where

@@ -136,10 +136,7 @@ impl Sessions {
     pub(crate) fn in_slot(&self, slot: usize) -> Option<&Session>
         ensures { option_map (λ s. s.now) result ≡ session_in self.now slot }
     {
-        match self.slots.get(slot) {
-            Some(Some(found)) => Some(found),
-            _ => None,
-        }
+        self.slots.get(slot)?.as_ref()
     }
 
     /// TPM2_StartAuthSession: starts a session in the lowest free slot, with the first of these
@@ -189,9 +186,7 @@ impl Sessions {
             self.new ≡ sessions_at o (Accepted c r nonce ∷ h)) }
         ensures refused { OnErr result (self.new ≡ self.old) }
     {
-        if self.get(session).is_none() {
-            return Err(HANDLE + of_parameter(1));
-        }
+        self.get(session).ok_or(HANDLE + of_parameter(1))?;
         self.slots[slot_of(session)] = None;
         Ok(())
     }
@@ -234,10 +229,8 @@ impl Sessions {
             self.new ≡ sessions_at o (Accepted c r nonce ∷ h)) }
         ensures refused { OnErr result (self.new ≡ self.old) }
     {
-        if self.policy(session).is_none() {
-            return Err(REFERENCE_H0);
-        }
-        self.begin_again(session);
+        self.policy(session).ok_or(REFERENCE_H0)?;
+        restart(&mut self.slots[slot_of(any_session(session))]);
         Ok(())
     }
 
@@ -253,9 +246,7 @@ impl Sessions {
             self.new ≡ sessions_at o (Accepted c r nonce ∷ h)) }
         ensures refused { OnErr result (self.new ≡ self.old) }
     {
-        if self.policy(session).is_none() {
-            return Err(REFERENCE_H0);
-        }
+        self.policy(session).ok_or(REFERENCE_H0)?;
         self.assert(session, &Assertion::AuthValue);
         Ok(())
     }
@@ -274,9 +265,7 @@ impl Sessions {
             self.new ≡ sessions_at o (Accepted c r nonce ∷ h)) }
         ensures refused { OnErr result (self.new ≡ self.old) }
     {
-        let Some(held) = self.policy(session) else {
-            return Err(REFERENCE_H0);
-        };
+        let held = self.policy(session).ok_or(REFERENCE_H0)?;
         held.check_code(code)?;
         self.assert(session, &Assertion::Code(code));
         Ok(())
@@ -296,9 +285,7 @@ impl Sessions {
             self.new ≡ sessions_at o (Accepted c r nonce ∷ h)) }
         ensures refused { OnErr result (self.new ≡ self.old) }
     {
-        let Some(held) = self.policy(session) else {
-            return Err(REFERENCE_H0);
-        };
+        let held = self.policy(session).ok_or(REFERENCE_H0)?;
         held.check_choice(digests)?;
         self.assert(session, &Assertion::Or(digests));
         Ok(())
@@ -331,9 +318,7 @@ impl Sessions {
             self.new ≡ sessions_at o (Accepted c r nonce ∷ h)) }
         ensures refused { OnErr result (self.new ≡ self.old) }
     {
-        let Some(held) = self.policy(session) else {
-            return Err(REFERENCE_H0);
-        };
+        let held = self.policy(session).ok_or(REFERENCE_H0)?;
         let composite = registers.composite(held.hash(), selections);
         let update_counter = registers.update_counter();
         held.check_registers(&composite, update_counter, pcr_digest)?;
@@ -353,18 +338,8 @@ impl Sessions {
             loaded self.now session ≡ Some s →
             digest ≡ digest_of s.hash (assertions_of (slot_number session) h)) }
     {
-        match self.policy(session) {
-            Some(held) => Ok(held.policy_digest()),
-            None => Err(REFERENCE_H0),
-        }
-    }
-
-    // The session asserts nothing any more.
-    fn begin_again(&mut self, session: PolicyHandle)
-        requires { IsSome (loaded self.old session) }
-        ensures { self.new ≡ with_slot (slot_number session) (option_map restarted) self.old }
-    {
-        restart(&mut self.slots[slot_of(any_session(session))]);
+        let held = self.policy(session).ok_or(REFERENCE_H0)?;
+        Ok(held.policy_digest())
     }
 
     // The session asserts this too.
