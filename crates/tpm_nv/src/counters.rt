@@ -325,20 +325,14 @@ impl Counters {
     pub fn public(&self, index: NvIndex) -> Option<NvPublic>
         ensures { result ≡ option_map (λ c. c.public) (counter_in self.now.counters index) }
     {
-        match entry(self.counters.as_slice(), index) {
-            None => None,
-            Some(counter) => Some(counter.public()),
-        }
+        Some(entry(self.counters.as_slice(), index)?.public())
     }
 
     /// The Name of an index, where it is defined (Part 1, "Names"): it changes with the first increment.
     pub fn name(&self, index: NvIndex) -> Option<Name>
         ensures { result ≡ option_map (λ c. nv_name c.public) (counter_in self.now.counters index) }
     {
-        match entry(self.counters.as_slice(), index) {
-            None => None,
-            Some(counter) => Some(counter.definition().name()),
-        }
+        Some(entry(self.counters.as_slice(), index)?.definition().name())
     }
 
     /// The authorization value of an index, where it is defined, without trailing zeros.
@@ -346,10 +340,7 @@ impl Counters {
         ensures { option_map (λ a. a.now) result
             ≡ option_map (λ c. c.auth) (counter_in self.now.counters index) }
     {
-        match entry(self.counters.as_slice(), index) {
-            None => None,
-            Some(counter) => Some(counter.definition().auth()),
-        }
+        Some(entry(self.counters.as_slice(), index)?.definition().auth())
     }
 
     /// The public area as it is now and the authorization value of an index, where it is defined.
@@ -357,10 +348,7 @@ impl Counters {
         ensures { option_map (λ d. d.now) result
             ≡ option_map definition_of (counter_in self.now.counters index) }
     {
-        match entry(self.counters.as_slice(), index) {
-            None => None,
-            Some(counter) => Some(counter.definition()),
-        }
+        Some(entry(self.counters.as_slice(), index)?.definition())
     }
 
     /// Increments a counter and answers its value: the first time since its definition one more than the greatest value
@@ -401,15 +389,11 @@ impl Counters {
     ) -> Result<Bounded<COUNTER_BYTES>, u32>
         ensures { result ≡ read_counter (counter_in self.now.counters index) by index size offset }
     {
-        let Some(counter) = entry(self.counters.as_slice(), index) else {
-            return Err(HANDLE);
-        };
+        let counter = entry(self.counters.as_slice(), index).ok_or(HANDLE)?;
         if !may(by, counter.definition().attrs().owner_reads(), index) {
             return Err(NV_AUTHORIZATION);
         }
-        let Some(value) = counter.value() else {
-            return Err(NV_UNINITIALIZED);
-        };
+        let value = counter.value().ok_or(NV_UNINITIALIZED)?;
         let size = size as usize;
         let offset = offset as usize;
         if offset + size > COUNTER_BYTES {
