@@ -86,3 +86,15 @@ pub number-requires : goal.number-requires
 number-requires g c =
     let last : c.len-last.result < c.args.most = omega (arith, c.len-last.ensures.value, c.len.ensures.value, c.if-len-most.true) in
     numbered_below c.args.first c.args.most c.len-last.result greatest_number last c.requires.numbers
+
+pub overflow_cast-last : goal.overflow_cast-last
+overflow_cast-last g c = omega (arith, c.len-last.ensures.value, c.len.ensures.value, c.if-len-most.true, c.requires.numbers)
+
+pub overflow_mul-last : goal.overflow_mul-last
+overflow_mul-last g c = omega (arith, c.len-last.ensures.value, c.len.ensures.value, c.if-len-most.true, c.requires.numbers)
+
+pub overflow_add-first : goal.overflow_add-first
+overflow_add-first g c = omega (arith, c.len-last.ensures.value, c.len.ensures.value, c.if-len-most.true, c.requires.numbers)
+
+pub push-requires : goal.push-requires
+push-requires g c = omega (arith, c.len.ensures.value, c.if-len-most.true, c.requires.room)
