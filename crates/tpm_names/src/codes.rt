@@ -1,9 +1,10 @@
 //! The names of response codes (Part 2, 6.6), and what they say.
 
-ghost use Rattle.std.specs.Prelude.{◌≡◌, ◌≤◌, ◌++◌, codes, option_map};
+ghost use Rattle.std.specs.Prelude.{◌≡◌, ◌≤◌, ◌++◌, codes, map, option_map};
 ghost use Rattle.std.specs.Fmt.{decimal};
-ghost use Rattle.tpm_names.specs.Codes.{code_of_name, meaning_of, name_in, subject_number, subject_of, subject_text};
-ghost use Rattle.tpm_names.specs.Meanings.{meaning_as};
+ghost use Rattle.tpm_names.specs.Codes.{code_of_name, format_one, format_zero, meaning_of, name_in};
+ghost use Rattle.tpm_names.specs.Codes.{subject_number, subject_of, subject_text};
+ghost use Rattle.tpm_names.specs.Meanings.{meaning_as, row_as};
 
 use crate::meaning::{Meaning, Row, look_up, look_up_name};
 use crate::meanings;
@@ -123,15 +124,27 @@ const WITH_NUMBER: [Row; 33] = meanings![
     0x27 "ECC_POINT" "the point is not on the curve",
 ];
 
+fn without_number() -> &'static [Row]
+    ensures { map row_as result.now ≡ format_zero }
+{
+    &WITHOUT_NUMBER
+}
+
+fn with_number() -> &'static [Row]
+    ensures { map row_as result.now ≡ format_one }
+{
+    &WITH_NUMBER
+}
+
 /// What a response code says, whatever its number.
 pub fn code_meaning(code: u32) -> Option<Meaning>
     ensures { option_map meaning_as result ≡ meaning_of code }
 {
     if code & FORMAT_ONE == 0 {
-        return look_up(&WITHOUT_NUMBER, code);
+        return look_up(without_number(), code);
     }
     if code < 0x1000 {
-        return look_up(&WITH_NUMBER, code & 0x3F);
+        return look_up(with_number(), code & 0x3F);
     }
     None
 }
@@ -152,9 +165,9 @@ pub fn code_of_name(name: &str) -> Option<u32>
     ensures { result ≡ code_of_name name.now }
 {
     let name = name_in(name.as_bytes());
-    match look_up_name(&WITHOUT_NUMBER, name) {
+    match look_up_name(without_number(), name) {
         Some(meaning) => Some(meaning.number),
-        None => match look_up_name(&WITH_NUMBER, name) {
+        None => match look_up_name(with_number(), name) {
             Some(meaning) => Some(FORMAT_ONE | meaning.number),
             None => None,
         },

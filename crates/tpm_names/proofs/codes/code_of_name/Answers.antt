@@ -1,5 +1,5 @@
-use Rattle.std.proofs.Common.{◌≡◌, Option, Some, None, option_map, refl, ap, ◌∙◌}
-use Rattle.std.specs.Prelude.{bit_or}
+use Rattle.std.proofs.Common.{◌≡◌, List, Option, Some, None, option_map, refl, ap, ◌∙◌}
+use Rattle.std.specs.Prelude.{ℕ, bit_or}
 use Rattle.tpm_names.specs.declared.meaning.Meaning.{Meaning as RustMeaning}
 use Rattle.tpm_names.specs.Codes.{format_one, format_zero, name_in, named_code}
 use Rattle.tpm_names.specs.Meanings.{Meaning, meaning_as, meaning_named}
@@ -17,12 +17,16 @@ in_none : (z o : Option RustMeaning) → z ≡ None → o ≡ None
     → None ≡ named_code (option_map meaning_as z) (option_map meaning_as o)
 in_none z o none is = rw (none, is) refl
 
+named_in : {t table : List Meaning} {name n : List ℕ} → t ≡ table → name ≡ n
+    → meaning_named t name ≡ meaning_named table n
+named_in t n = rw (t, n) refl
+
 pub returns-in-Some : goal.returns-in-Some
 returns-in-Some c =
     let n = name_in c.args.name.now in
     let named : c.name_in-name.result.now ≡ n = c.name_in-name.ensures ∙ ap name_in c.as_bytes.ensures.value in
     in_zero c.look_up_name.result c.in-Some.meaning (meaning_named format_one n) c.in-Some.is
-    ∙ ap (λ z. named_code z (meaning_named format_one n)) (c.look_up_name.ensures ∙ ap (meaning_named format_zero) named)
+    ∙ ap (λ z. named_code z (meaning_named format_one n)) (c.look_up_name.ensures ∙ named_in c.without_number.ensures named)
 
 pub returns-in-Some-look_up_name : goal.returns-in-Some-look_up_name
 returns-in-Some-look_up_name c =
@@ -30,8 +34,8 @@ returns-in-Some-look_up_name c =
     let named : c.name_in-name.result.now ≡ n = c.name_in-name.ensures ∙ ap name_in c.as_bytes.ensures.value in
     let one = option_map meaning_as c.look_up_name-in-None.result in
     in_one c.look_up_name.result c.look_up_name-in-None.result c.in-Some-look_up_name.meaning c.in-None.is c.in-Some-look_up_name.is
-    ∙ ap (λ z. named_code z one) (c.look_up_name.ensures ∙ ap (meaning_named format_zero) named)
-    ∙ ap (named_code (meaning_named format_zero n)) (c.look_up_name-in-None.ensures ∙ ap (meaning_named format_one) named)
+    ∙ ap (λ z. named_code z one) (c.look_up_name.ensures ∙ named_in c.without_number.ensures named)
+    ∙ ap (named_code (meaning_named format_zero n)) (c.look_up_name-in-None.ensures ∙ named_in c.with_number.ensures named)
 
 pub returns-in-None-look_up_name : goal.returns-in-None-look_up_name
 returns-in-None-look_up_name c =
@@ -39,5 +43,5 @@ returns-in-None-look_up_name c =
     let named : c.name_in-name.result.now ≡ n = c.name_in-name.ensures ∙ ap name_in c.as_bytes.ensures.value in
     let one = option_map meaning_as c.look_up_name-in-None.result in
     in_none c.look_up_name.result c.look_up_name-in-None.result c.in-None.is c.in-None-look_up_name.is
-    ∙ ap (λ z. named_code z one) (c.look_up_name.ensures ∙ ap (meaning_named format_zero) named)
-    ∙ ap (named_code (meaning_named format_zero n)) (c.look_up_name-in-None.ensures ∙ ap (meaning_named format_one) named)
+    ∙ ap (λ z. named_code z one) (c.look_up_name.ensures ∙ named_in c.without_number.ensures named)
+    ∙ ap (named_code (meaning_named format_zero n)) (c.look_up_name-in-None.ensures ∙ named_in c.with_number.ensures named)
