@@ -407,19 +407,6 @@ fn start(bytes: &mut [u8; BANKS_BYTES])
     }
 }
 
-// Extends a register of a bank with a digest.
-fn extend_one(bytes: &mut [u8], alg: Alg, register: u32, digest: &[u8])
-    requires bytes { length bytes.old ≡ all_bytes }
-    requires register { register < registers }
-    requires digest { length digest.now ≡ digest_len alg }
-    ensures { Holds bytes.new
-        (with_value alg register (digest_of alg (value_at bytes.old alg register ++ digest.now))
-        (value_at bytes.old)) }
-{
-    let at = offset(alg, register);
-    tpm_hmac::extend(alg, &mut bytes[at..at + alg.digest_len()], digest);
-}
-
 // Extends a register with each of the digests, in their order, in the bank of the digest's hash.
 fn extend(bytes: &mut [u8], register: u32, digests: &DigestValues)
     requires bytes { length bytes.old ≡ all_bytes }
@@ -427,6 +414,8 @@ fn extend(bytes: &mut [u8], register: u32, digests: &DigestValues)
     ensures { Holds bytes.new (changed (Extend register digests.now) bytes.old) }
 {
     for entry in digests.as_slice() {
-        extend_one(bytes, entry.hash(), register, entry.digest());
+        let alg = entry.hash();
+        let at = offset(alg, register);
+        tpm_hmac::extend(alg, &mut bytes[at..at + alg.digest_len()], entry.digest());
     }
 }
