@@ -44,3 +44,6 @@ returns-in_err-read-clause-reads g c =
     c.loop.cursor.here c.in_err-read.field-0.0
     (entries c.args.count [] false (λ _. read c.args.cursor.now.number g.T.Wire.layout) c.args.cursor.now.here)
     c.loop-test.true refl is c.loop.invariant.so_far)
+
+pub push-requires : goal.push-requires
+push-requires g c = omega (arith, c.loop.invariant.len, c.loop-test.true, c.requires)
