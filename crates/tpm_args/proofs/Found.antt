@@ -1,6 +1,6 @@
 -- What was found in the words, by the getters and by the matches.
 use mathlib.Core.Path.{fun_ext}
-use Rattle.std.proofs.Common.{◌≡◌, ap, sym, subst, refl, ◌∙◌, Bool, true, false, inl, inr, codes, List, [], map, ◌⊎◌}
+use Rattle.std.proofs.Common.{◌≡◌, ap, sym, subst, refl, ◌∙◌, ℕ, Bool, true, false, inl, inr, codes, List, [], map, ◌⊎◌}
 use Rattle.std.proofs.Common.{Option, Some, None, option_map}
 use Rattle.std.specs.Prelude.{◌&&◌, not, is_some, Box, Result, Ok, Err, IfOk, IfErr, MatchResult}
 use Rattle.std.specs.Box.{box_value}
@@ -40,6 +40,9 @@ use Rattle.tpm_args.specs.inner.Task.{AsksNothingWith}
 some : {A : Type 0} (x y : A) → (let a : Option A = Some x in a) ≡ Some y → x ≡ y
 some x y e = cc
 
+given_and_not : {A : Type 0} (o : Option A) (x : A) → o ≡ Some x → o ≡ None → ⊥
+given_and_not o x is none = let z : ⊥ = cc in z
+
 opposite_ends : true ≡ false → ⊥
 opposite_ends e = absurd cc
 
@@ -75,6 +78,11 @@ pub not_listed_alone : (value : Text → Option Text) → is_given (value (codes
 not_listed_alone value given others =
     asks_no_check value (λ task h. opposite_ends (sym given ∙ h.3)) (λ task h. opposite_ends (sym h.3 ∙ others))
 
+-- Neither has words without a log.
+pub no_log_to_check : (value : Text → Option Text) → value (codes "LOG") ≡ None → AsksNothingWith (codes "check") value
+no_log_to_check value none =
+    asks_no_check value (λ task h. given_and_not _ _ h.1.0 none) (λ task h. given_and_not _ _ h.4.0 none)
+
 -- No task has the name of `events` but its two.
 asks_no_events : (value : Text → Option Text)
     → ((task : EventsTask) → AsksWith (codes "events") value (Events task) → ⊥)
@@ -98,6 +106,11 @@ pub not_listed : (value : Text → Option Text) → ((options : CheckOptions) �
 not_listed value none =
     asks_no_events value (λ task h. none task.options h.1) (λ task h. none h.1.0 h.1.1)
 
+-- Neither has words without a log.
+pub no_log_to_list : (value : Text → Option Text) → value (codes "LOG") ≡ None → AsksNothingWith (codes "events") value
+no_log_to_list value none =
+    asks_no_events value (λ task h. given_and_not _ _ h.4 none) (λ task h. given_and_not _ _ h.4.0 none)
+
 -- Where it is bare no registers are listed.
 bare_registers : (registers attest : Option Text) (places digests event-data : Bool)
     → (((((not (is_some registers) && not (is_some attest)) && not places) && not digests) && not event-data) ≡ true)
@@ -120,6 +133,22 @@ pub no_header_alone : (value : Text → Option Text) → is_given (value (codes 
     → AsksNothingWith (codes "events") value
 no_header_alone value given others =
     asks_no_events value (λ task h. opposite_ends (sym given ∙ h.2)) (λ task h. opposite_ends (sym h.3 ∙ others))
+
+-- No task has the name of `run` but its own.
+pub asks_no_run : (value : Text → Option Text)
+    → ((owner : List ℕ) (greatest : ℕ) → AsksWith (codes "run") value (Run owner greatest) → ⊥) → AsksNothingWith (codes "run") value
+asks_no_run value runs (Run owner greatest) h = runs owner greatest h
+asks_no_run value runs (Show reply fields hex) h = absurd (other (codes "show") (codes "run") refl refl h.0)
+asks_no_run value runs (ShowCapture task) h = absurd (other (codes "show") (codes "run") refl refl h.0)
+asks_no_run value runs (ShowPackets task) h = absurd (other (codes "show") (codes "run") refl refl h.0)
+asks_no_run value runs (ShowNv file) h = absurd (other (codes "show") (codes "run") refl refl h.0)
+asks_no_run value runs (Build code handles sessions parameters) h = absurd (other (codes "build") (codes "run") refl refl h.0)
+asks_no_run value runs (Explain code) h = absurd (other (codes "explain") (codes "run") refl refl h.0)
+asks_no_run value runs (ExplainName word) h = absurd (other (codes "explain") (codes "run") refl refl h.0)
+asks_no_run value runs (Check task) h = absurd (other (codes "check") (codes "run") refl refl h.0)
+asks_no_run value runs (CheckListed task) h = absurd (other (codes "check") (codes "run") refl refl h.0)
+asks_no_run value runs (Events task) h = absurd (other (codes "events") (codes "run") refl refl h.0)
+asks_no_run value runs (EventsHeader task) h = absurd (other (codes "events") (codes "run") refl refl h.0)
 
 -- the values of the words, by their rows
 values : (f : Found) (rows : List Row) → rows ≡ rows_of f → (λ id. first_of id rows) ≡ first_value f

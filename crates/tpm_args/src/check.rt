@@ -8,12 +8,12 @@ ghost use Rattle.tpm_types.specs.declared.alg.Alg.{Alg as AlgValue};
 ghost use Rattle.tpm_types.specs.declared.tpms.Selection.{Selection as SelectionValue};
 ghost use Rattle.tpm_options.specs.declared.CheckOptions.{CheckOptions as CheckOptionsValue};
 ghost use Rattle.tpm_args.specs.inner.Stop.{IsAsked, IsMemoryOr};
-ghost use Rattle.tpm_args.specs.Task.{AreFiles, AreOptions, DigestsGoTogether, GoTogether, form_asked, has_neither};
-ghost use Rattle.tpm_args.specs.Task.{is_alone, is_uncompared, IsExpected, IsHashExpected, IsRequired};
+ghost use Rattle.tpm_args.specs.Task.{AreFiles, AreOptions, DigestsGoTogether, GoTogether, form_asked, goes_with};
+ghost use Rattle.tpm_args.specs.Task.{has_neither, is_alone, is_uncompared, IsExpected, IsHashExpected, IsRequired};
 
 use crate::bytes::bytes_in;
 use crate::given::{form_asked, has, is_given};
-use crate::invalid::{Usage, check_value, check_words, invalid_value, nothing_asked};
+use crate::invalid::{Usage, check_value, check_words, invalid_value, nothing_asked, wrong_words};
 use crate::stop::Stop;
 use crate::task::{Asked, Task};
 use clap::ArgMatches;
@@ -72,8 +72,7 @@ pub(crate) fn options<'a>(usage: Usage, words: &ArgMatches<'a>) -> Result<CheckO
         (IsMemoryOr ((options : CheckOptionsValue)
         → AreOptions (first_value (found_of words.now)) options → ⊥)) }
 {
-    check_flags(usage, words)?;
-    check_digests(usage, words)?;
+    check_together(usage, words)?;
     let nonce = bytes_expected(usage, words, "nonce", "--nonce <HEX>")?;
     let required = required(usage, words)?;
     let signer = bytes_expected(usage, words, "signer", "--signer <HEX>")?;
@@ -93,39 +92,67 @@ pub(crate) fn options<'a>(usage: Usage, words: &ArgMatches<'a>) -> Result<CheckO
     })
 }
 
-// A usage fault where a flag is given beside words with which it doesn't go.
-fn check_flags(usage: Usage, words: &ArgMatches<'_>) -> Result<(), Stop>
-    ensures { MatchResult result (λ _. GoTogether (first_value (found_of words.now)))
-        (IsMemoryOr (GoTogether (first_value (found_of words.now)) → ⊥)) }
+// A flag is not given, or this holds.
+fn goes_with(flag: bool, holds: bool) -> bool
+    ensures { result ≡ goes_with flag holds }
+{
+    !flag | holds
+}
+
+// Why flags don't go with the words beside them, if they don't.
+fn flags_fault(words: &ArgMatches<'_>) -> Option<&'static str>
+    ensures { MatchOption result (GoTogether (first_value (found_of words.now)))
+        (λ _. GoTogether (first_value (found_of words.now)) → ⊥) }
 {
     let attest = has(words, "attest");
     let secure_boot = is_given(words, "secure-boot");
-    let reason = "--secure-boot goes with neither --registers nor --quote";
-    check_words(usage, !secure_boot | has_neither(words), reason)?;
-    let reason = "--any-state goes with --secure-boot";
-    check_words(usage, !is_given(words, "any-state") | secure_boot, reason)?;
-    let without_nonce = attest & !has(words, "nonce");
-    let reason = "--any-nonce goes with --attest, and not with --nonce";
-    check_words(usage, !is_given(words, "any-nonce") | without_nonce, reason)?;
-    let without_list = attest & !has(words, "require");
-    let reason = "--any-selection goes with --attest, and not with --require";
-    check_words(
-        usage,
-        !is_given(words, "any-selection") | without_list,
-        reason,
-    )
+    if !goes_with(secure_boot, has_neither(words)) {
+        return Some("--secure-boot goes with neither --registers nor --quote");
+    }
+    if !goes_with(is_given(words, "any-state"), secure_boot) {
+        return Some("--any-state goes with --secure-boot");
+    }
+    if !goes_with(is_given(words, "any-nonce"), attest & !has(words, "nonce")) {
+        return Some("--any-nonce goes with --attest, and not with --nonce");
+    }
+    if !goes_with(
+        is_given(words, "any-selection"),
+        attest & !has(words, "require"),
+    ) {
+        return Some("--any-selection goes with --attest, and not with --require");
+    }
+    None
 }
 
 // The same of a list of allowed digests, and of what a log extends.
-fn check_digests(usage: Usage, words: &ArgMatches<'_>) -> Result<(), Stop>
-    ensures { MatchResult result (λ _. DigestsGoTogether (first_value (found_of words.now)))
-        (IsMemoryOr (DigestsGoTogether (first_value (found_of words.now)) → ⊥)) }
+fn digests_fault(words: &ArgMatches<'_>) -> Option<&'static str>
+    ensures { MatchOption result (DigestsGoTogether (first_value (found_of words.now)))
+        (λ _. DigestsGoTogether (first_value (found_of words.now)) → ⊥) }
 {
-    let beside = has(words, "attest") & has_neither(words);
-    let reason = "--allow goes with --attest, and with neither --registers nor --quote";
-    check_words(usage, !has(words, "allow") | beside, reason)?;
-    let reason = "--extends goes alone";
-    check_words(usage, !is_given(words, "extends") | is_alone(words), reason)
+    if !goes_with(
+        has(words, "allow"),
+        has(words, "attest") & has_neither(words),
+    ) {
+        return Some("--allow goes with --attest, and with neither --registers nor --quote");
+    }
+    if !goes_with(is_given(words, "extends"), is_alone(words)) {
+        return Some("--extends goes alone");
+    }
+    None
+}
+
+// A usage fault where words don't go together.
+fn check_together(usage: Usage, words: &ArgMatches<'_>) -> Result<(), Stop>
+    ensures { MatchResult result
+        (λ _. GoTogether (first_value (found_of words.now))
+        × DigestsGoTogether (first_value (found_of words.now)))
+        (IsMemoryOr (GoTogether (first_value (found_of words.now))
+        × DigestsGoTogether (first_value (found_of words.now)) → ⊥)) }
+{
+    match flags_fault(words).or(digests_fault(words)) {
+        Some(reason) => Err(wrong_words(usage, reason)?),
+        None => Ok(()),
+    }
 }
 
 // Whether neither a list of registers nor the information of a quote is given.

@@ -12,7 +12,7 @@ ghost use Rattle.tpm_args.specs.Task.{is_given as is_given_by, form_asked, Asks,
 use crate::check::check_task;
 use crate::events::events_task;
 use crate::explain::explain_task;
-use crate::invalid::{Usage, no_command, nothing_asked};
+use crate::invalid::{Usage, no_command, nothing_asked, usage_fault};
 use crate::name::{command_named, names_help};
 use crate::run::run_task;
 use crate::show::show_task;
@@ -162,8 +162,7 @@ fn not_text(alloc: Global) -> Result<Stop, AllocError>
     ensures { IfOk result (StopsFor InvalidValue) }
 {
     let message = "invalid UTF-8 was detected in one or more arguments";
-    let error = program_words(alloc, "")?.error(ErrorKind::InvalidValue, message)?;
-    Stop::of(alloc, &error)
+    usage_fault(alloc, None, ErrorKind::InvalidValue, message)
 }
 
 /// The fault of words that are not text, of which no more can be read.

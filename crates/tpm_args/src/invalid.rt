@@ -1,10 +1,12 @@
 //! Usage faults of a subcommand's words. An error is want of memory for their text.
 
 ghost use Rattle.std.specs.Prelude.{◌≡◌, IfOk, MatchResult, false, true};
+ghost use Rattle.tpm_args.specs.Stop.{StopsFor};
 ghost use Rattle.tpm_args.specs.inner.Stop.{IsMemoryOr};
 
 use crate::name::command_names;
 use crate::stop::Stop;
+use clap::Command;
 use clap::error::ErrorKind;
 use std::alloc::{AllocError, Global};
 use tpm_words::{Subcommand, program_words};
@@ -22,22 +24,46 @@ impl Usage {
     }
 }
 
-/// The usage fault of words that ask for nothing, which tells the usage of the program.
+/// The usage fault of words that ask for nothing. clap refuses such words itself.
 pub(crate) fn nothing_asked(alloc: Global) -> Result<Stop, AllocError>
     ensures { IfOk result (IsMemoryOr (Unit {0})) }
 {
-    let mut usage = program_words(alloc, "")?.render_usage()?;
-    usage.push('\n')?;
-    Ok(Stop::Usage(usage))
+    let text = String::from_str(alloc, "error: a subcommand and its words are wanted\n")?;
+    Ok(Stop::Usage(text))
+}
+
+// What clap knows of a subcommand, or of the program where none is given.
+fn command_of(alloc: Global, of: Option<Subcommand>) -> Result<Command<'static>, AllocError> {
+    match of {
+        Some(subcommand) => subcommand.words(alloc, ""),
+        None => program_words(alloc, ""),
+    }
+}
+
+/// The fault of this kind for this reason, with the usage of a subcommand, or of the program where none is given.
+pub(crate) fn usage_fault(
+    alloc: Global,
+    of: Option<Subcommand>,
+    kind: ErrorKind,
+    reason: &str,
+) -> Result<Stop, AllocError>
+    ensures { IfOk result (StopsFor kind) }
+{
+    let mut command = command_of(alloc, of)?;
+    let error = command.error(kind, reason)?;
+    Stop::of(alloc, &error)
 }
 
 /// The usage fault of words for this reason, as of words that don't go together.
 pub(crate) fn wrong_words(usage: Usage, reason: &str) -> Result<Stop, AllocError>
     ensures { IfOk result (IsMemoryOr (Unit {0})) }
 {
-    let mut command = usage.of.words(usage.alloc, "")?;
-    let error = command.error(ErrorKind::ValueValidation, reason)?;
-    Stop::of(usage.alloc, &error)
+    usage_fault(
+        usage.alloc,
+        Some(usage.of),
+        ErrorKind::ValueValidation,
+        reason,
+    )
 }
 
 /// The usage fault of a word's value.

@@ -5,8 +5,8 @@ use Rattle.tpm_args.proofs.check.options.Goals as goal
 
 pub returns : goal.returns
 returns c = (
-  c.in_ok-check_flags.ensures,
-  c.in_ok-check_digests.ensures,
+  c.in_ok-check_together.ensures.0,
+  c.in_ok-check_together.ensures.1,
   (c.in_ok-nonce.ensures, c.in_ok-required.ensures, c.in_ok-signer.ensures, c.in_ok-hash.ensures),
   c.is_given.ensures,
   rw (c.is_given-2.ensures, c.has.ensures) refl,
@@ -16,6 +16,11 @@ returns c = (
   c.is_given-5.ensures,
   c.form_asked.ensures,
 )
+
+pub returns-in_err-check_together : goal.returns-in_err-check_together
+returns-in_err-check_together c =
+    let p = err_from_is_err_and c.from_residual.result c.from_residual.ensures.1 in
+    rw (p.1, p.2) (memory_or c.in_err-check_together.field-0.0 (λ none options are. none (are.0, are.1)) c.in_err-check_together.ensures)
 
 pub returns-in_err-nonce : goal.returns-in_err-nonce
 returns-in_err-nonce c =
