@@ -150,6 +150,26 @@ asks_no_run value runs (CheckListed task) h = absurd (other (codes "check") (cod
 asks_no_run value runs (Events task) h = absurd (other (codes "events") (codes "run") refl refl h.0)
 asks_no_run value runs (EventsHeader task) h = absurd (other (codes "events") (codes "run") refl refl h.0)
 
+is_named : (name met : Text) → bytes_eq met met ≡ true → name ≡ met → bytes_eq name met ≡ false → ⊥
+is_named name met same e differs = opposite_ends (sym same ∙ (sym (ap (λ (x : Text). bytes_eq x met) e) ∙ differs))
+
+-- No task has another name.
+pub asks_no_other : (name : Text) (value : Text → Option Text) → bytes_eq name (codes "show") ≡ false
+    → bytes_eq name (codes "build") ≡ false → bytes_eq name (codes "run") ≡ false → bytes_eq name (codes "explain") ≡ false
+    → bytes_eq name (codes "check") ≡ false → bytes_eq name (codes "events") ≡ false → AsksNothingWith name value
+asks_no_other name value show build run explain check events (Show reply fields hex) h = is_named name (codes "show") refl h.0 show
+asks_no_other name value show build run explain check events (ShowCapture task) h = is_named name (codes "show") refl h.0 show
+asks_no_other name value show build run explain check events (ShowPackets task) h = is_named name (codes "show") refl h.0 show
+asks_no_other name value show build run explain check events (ShowNv file) h = is_named name (codes "show") refl h.0 show
+asks_no_other name value show build run explain check events (Build code handles sessions parameters) h = is_named name (codes "build") refl h.0 build
+asks_no_other name value show build run explain check events (Run owner greatest) h = is_named name (codes "run") refl h.0 run
+asks_no_other name value show build run explain check events (Explain code) h = is_named name (codes "explain") refl h.0 explain
+asks_no_other name value show build run explain check events (ExplainName word) h = is_named name (codes "explain") refl h.0 explain
+asks_no_other name value show build run explain check events (Check task) h = is_named name (codes "check") refl h.0 check
+asks_no_other name value show build run explain check events (CheckListed task) h = is_named name (codes "check") refl h.0 check
+asks_no_other name value show build run explain check events (Events task) h = is_named name (codes "events") refl h.0 events
+asks_no_other name value show build run explain check events (EventsHeader task) h = is_named name (codes "events") refl h.0 events
+
 -- the values of the words, by their rows
 values : (f : Found) (rows : List Row) → rows ≡ rows_of f → (λ id. first_of id rows) ≡ first_value f
 values f rows is = fun_ext (λ id. ap (first_of id) is ∙ sym (first_value-rows f id))
