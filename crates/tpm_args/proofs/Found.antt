@@ -26,6 +26,7 @@ use Rattle.tpm_options.specs.declared.CheckOptions.{CheckOptions}
 use Rattle.tpm_options.specs.declared.CheckTask.{CheckTask}
 use Rattle.tpm_options.specs.declared.EventsTask.{EventsTask}
 use Rattle.tpm_options.specs.declared.LogTask.{LogTask}
+use Rattle.tpm_options.specs.declared.PacketsTask.{PacketsTask}
 use Rattle.tpm_args.specs.declared.task.Task.TheVariants.{Show, ShowCapture, ShowPackets, ShowNv, Build, Run, Explain}
 use Rattle.tpm_args.specs.declared.task.Task.TheVariants.{ExplainName, Check, CheckListed, Events, EventsHeader}
 use Rattle.tpm_args.specs.declared.task.Task.{Task}
@@ -133,6 +134,22 @@ pub no_header_alone : (value : Text → Option Text) → is_given (value (codes 
     → AsksNothingWith (codes "events") value
 no_header_alone value given others =
     asks_no_events value (λ task h. opposite_ends (sym given ∙ h.2)) (λ task h. opposite_ends (sym h.3 ∙ others))
+
+-- Where packets are given, a task of `show` is of them.
+pub no_packets : (value : Text → Option Text) (file : Text) → value (codes "pcap") ≡ Some file
+    → ((task : PacketsTask) → AsksWith (codes "show") value (ShowPackets task) → ⊥) → AsksNothingWith (codes "show") value
+no_packets value file given none (ShowPackets task) h = none task h
+no_packets value file given none (Show reply fields hex) h = given_and_not _ file given h.9
+no_packets value file given none (ShowCapture task) h = given_and_not _ file given h.8
+no_packets value file given none (ShowNv kept) h = given_and_not _ file given h.8
+no_packets value file given none (Check task) h = absurd (other (codes "check") (codes "show") refl refl h.0)
+no_packets value file given none (CheckListed task) h = absurd (other (codes "check") (codes "show") refl refl h.0)
+no_packets value file given none (Build code handles sessions parameters) h = absurd (other (codes "build") (codes "show") refl refl h.0)
+no_packets value file given none (Run owner greatest) h = absurd (other (codes "run") (codes "show") refl refl h.0)
+no_packets value file given none (Explain code) h = absurd (other (codes "explain") (codes "show") refl refl h.0)
+no_packets value file given none (ExplainName word) h = absurd (other (codes "explain") (codes "show") refl refl h.0)
+no_packets value file given none (Events task) h = absurd (other (codes "events") (codes "show") refl refl h.0)
+no_packets value file given none (EventsHeader task) h = absurd (other (codes "events") (codes "show") refl refl h.0)
 
 -- No task has the name of `run` but its own.
 pub asks_no_run : (value : Text → Option Text)
