@@ -7,6 +7,8 @@ pub mod Pushed
 pub mod LineReading
 pub mod Telling
 pub mod Renderings
+mod Fitting
+mod Readable
 mod Characters
 mod Escaped
 mod Passes

@@ -8,6 +8,7 @@ pub mod Escapes
 pub mod Guids
 pub mod Marks
 pub mod Values
+pub mod Fits
 pub mod Telling
 pub mod Fields
 pub mod Lines

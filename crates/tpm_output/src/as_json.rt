@@ -1,6 +1,7 @@
 //! Marks as JSON.
 
-ghost use Rattle.std.specs.Prelude.{◌≡◌, ◌++◌, [], OnOk, Some, codes, option_map};
+ghost use Rattle.std.specs.Prelude.{◌≡◌, ◌++◌, [], OnOk, Some, codes, option_map, true};
+ghost use Rattle.tpm_output.specs.Fits.{mark_fits, value_fits};
 ghost use Rattle.tpm_output.specs.Json.{closing, comma, ends, label, mark_text, opening, separator, units_member};
 ghost use Rattle.tpm_output.specs.Marks.{as_mark, as_value};
 ghost use Rattle.tpm_output.specs.Values.{in_json};
@@ -82,8 +83,9 @@ fn put_named_opening<S: Sink>(sink: &mut S, shape: Shape) -> Told
 
 // Puts the end of a name, and what it names.
 fn put_named<S: Sink>(sink: &mut S, value: &Value<'_>) -> Told
-    ensures { OnOk result (S.written sink.new
+    ensures text { OnOk result (S.written sink.new
         ≡ S.written sink.old ++ (codes "\":" ++ in_json (as_value value.now))) }
+    ensures fits { OnOk result (value_fits (as_value value.now) ≡ true) }
 {
     if is_string(value) {
         put(sink, "\":\"")?;
@@ -111,9 +113,10 @@ fn put_units<S: Sink>(sink: &mut S, value: &Value<'_>) -> Told
 }
 
 fn put_said<S: Sink>(sink: &mut S, behind: bool, name: Option<&str>, value: &Value<'_>) -> Told
-    ensures { OnOk result (S.written sink.new ≡ S.written sink.old ++ (comma behind
+    ensures text { OnOk result (S.written sink.new ≡ S.written sink.old ++ (comma behind
         ++ (label (option_map (λ n. n.now) name.entry) ++ (in_json (as_value value.now)
         ++ units_member (option_map (λ n. n.now) name.entry) (as_value value.now))))) }
+    ensures fits { OnOk result (value_fits (as_value value.now) ≡ true) }
 {
     match name {
         Some(name) => {
@@ -147,8 +150,9 @@ fn put_opened<S: Sink>(sink: &mut S, behind: bool, name: Option<&str>, shape: Sh
 }
 
 pub(crate) fn put_mark<S: Sink>(sink: &mut S, behind: bool, mark: &Mark<'_>) -> Told
-    ensures { OnOk result (S.written sink.new ≡ S.written sink.old
+    ensures text { OnOk result (S.written sink.new ≡ S.written sink.old
         ++ (separator behind (as_mark mark.now) ++ mark_text (as_mark mark.now))) }
+    ensures fits { OnOk result (mark_fits (as_mark mark.now) ≡ true) }
 {
     match mark {
         Mark::Says(name, value) => put_said(sink, behind, *name, value),
@@ -159,12 +163,12 @@ pub(crate) fn put_mark<S: Sink>(sink: &mut S, behind: bool, mark: &Mark<'_>) -> 
 }
 
 impl<S: Sink + Drop> Teller for Json<S> {
-    ghost use Rattle.std.specs.Prelude.{ℕ, Bool, List};
+    ghost use Rattle.std.specs.Prelude.{ℕ, Bool, List, true};
     ghost use Rattle.tpm_output.specs.Json.{add_json};
 
-    ghost State = { List ℕ × Bool };
+    ghost State = { List ℕ × Bool × Bool };
 
-    ghost state = { λ json. (S.written json.sink, json.behind) };
+    ghost state = { λ json. (S.written json.sink, json.behind, true) };
 
     ghost tells = { add_json };
 
