@@ -3,7 +3,6 @@
 ghost use Rattle.std.specs.Prelude.{List, IfOk, string_bytes};
 ghost use Rattle.tpm_types.specs.declared.tpms.Selection.{Selection as SelectionValue};
 ghost use Rattle.tpm_check.specs.AllowedBoot.{SaysBehind};
-ghost use Rattle.tpm_check.specs.CheckAttest.{Selects};
 ghost use Rattle.tpm_check.specs.Compare.{Verdict, printed};
 ghost use Rattle.tpm_check.specs.inner.CheckAttest.{Adds};
 ghost use Rattle.tpm_check.specs.inner.Told.{quote_by};
@@ -16,7 +15,6 @@ use std::alloc::{AllocError, Global};
 use tpm_output::answer::Answer;
 use tpm_output::status::Status;
 use tpm_pcr::Registers;
-use tpm_quote::decode_attest;
 use tpm_types::Selections;
 
 /// What is said behind a quote that is the one asked for.
@@ -27,16 +25,6 @@ pub(crate) trait Behind {
     fn push(&self, text: &mut String, quoted: &Selections) -> Result<Status, AllocError>
         ensures { IfOk result (λ status. Adds (says self.now quoted.now) status
             (string_bytes text.old) (string_bytes text.new)) };
-}
-
-/// What a quote selects, and nothing where the bytes spell none.
-pub(crate) fn selected(attest: &[u8]) -> Selections
-    ensures { Selects attest.now result }
-{
-    match decode_attest(attest) {
-        Ok(attest) => attest.quote.selections,
-        Err(_) => Selections::default(),
-    }
 }
 
 /// What is printed of a quote beside registers, and of what stands behind it.
@@ -50,12 +38,12 @@ pub(crate) fn answer_beside<B: Behind>(
         (printed a.status (string_bytes a.text))) }
 {
     let form = quote.options.form;
-    let first = answer_to_attest(alloc, &Beside { registers, form }, quote)?;
-    match first.status {
-        Status::Refused => ended(form, first),
+    let said = answer_to_attest(alloc, &Beside { registers, form }, quote)?;
+    match said.answer.status {
+        Status::Refused => ended(form, said.answer),
         Status::Done => {
-            let mut text = first.text;
-            let status = behind.push(&mut text, &selected(quote.attest))?;
+            let mut text = said.answer.text;
+            let status = behind.push(&mut text, &said.selections)?;
             ended(form, Answer { status, text })
         }
     }

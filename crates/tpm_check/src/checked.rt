@@ -81,7 +81,10 @@ fn answer_to_signed(
 {
     let options = asked.options;
     match asked.attest {
-        Some(attest) => answer_to_attest(alloc, found, AskedQuote { options, attest }),
+        Some(attest) => {
+            let said = answer_to_attest(alloc, found, AskedQuote { options, attest })?;
+            Ok(said.answer)
+        }
         None => Ok(Answer::done(String::new(alloc))),
     }
 }

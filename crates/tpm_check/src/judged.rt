@@ -3,7 +3,7 @@
 ghost use Rattle.std.specs.Prelude.{◌≡◌, IfOk, OnOk, option_map, string_bytes};
 ghost use Rattle.std.specs.Str.{bytes_eq};
 ghost use Rattle.tpm_output.specs.Telling.{told as told_by};
-ghost use Rattle.tpm_check.specs.CheckAttest.{ChecksAttest, given, hint, is_asked_for, is_done};
+ghost use Rattle.tpm_check.specs.CheckAttest.{ChecksAttest, Selects, given, hint, is_asked_for, is_done};
 ghost use Rattle.tpm_check.specs.CheckAttest.{is_signature, is_sized, judged, marks_of_judged};
 ghost use Rattle.tpm_check.specs.CheckAttest.{marks_of_lacks, marks_of_selected, marks_of_signer, selected};
 ghost use Rattle.tpm_check.specs.Compare.{printed};
@@ -228,14 +228,22 @@ fn hint(bytes: &[u8]) -> Option<&'static str>
     }
 }
 
-/// What is printed of a quote, or of the fault of its bytes, beside registers.
+/// What is printed of a quote as it was signed, and what the quote selects: nothing where the bytes spell none.
+#[derive(Drop)]
+pub(crate) struct SaidOfQuote {
+    pub(crate) answer: Answer,
+    pub(crate) selections: Selections,
+}
+
+/// What is printed of a quote, or of the fault of its bytes, beside registers, and what the quote selects.
 pub(crate) fn answer_to_attest(
     alloc: Global,
     found: &Beside<'_>,
     quote: AskedQuote<'_, '_>,
-) -> Result<Answer, AllocError>
-    ensures { IfOk result (λ a. ChecksAttest (told found.now) quote.entry.options.now
-        quote.entry.attest.now (printed a.status (string_bytes a.text))) }
+) -> Result<SaidOfQuote, AllocError>
+    ensures checks { IfOk result (λ s. ChecksAttest (told found.now) quote.entry.options.now
+        quote.entry.attest.now (printed s.answer.status (string_bytes s.answer.text))) }
+    ensures selects { IfOk result (λ s. Selects quote.entry.attest.now s.selections) }
 {
     let AskedQuote {
         options,
@@ -251,8 +259,18 @@ pub(crate) fn answer_to_attest(
                 judged,
                 form,
             };
-            rendered(alloc, form, status, &told)
+            let answer = rendered(alloc, form, status, &told)?;
+            Ok(SaidOfQuote {
+                answer,
+                selections: attest.quote.selections,
+            })
         }
-        Err(refusal) => refusal_answer(alloc, found.form, &refusal, hint(bytes)),
+        Err(refusal) => {
+            let answer = refusal_answer(alloc, found.form, &refusal, hint(bytes))?;
+            Ok(SaidOfQuote {
+                answer,
+                selections: Selections::default(),
+            })
+        }
     }
 }

@@ -3,7 +3,6 @@
 ghost use Rattle.std.specs.Prelude.{ℕ, List, Some, map, IfOk, IsErrOf, string_bytes};
 ghost use Rattle.std.specs.Io.KnownBytes.{Appends};
 ghost use Rattle.tpm_log.specs.Events.{shown};
-ghost use Rattle.tpm_pcr.specs.Registers.{value_in};
 ghost use Rattle.tpm_wire.specs.Sources.{IsWhereItFailed};
 ghost use Rattle.tpm_output.specs.declared.fault.ToolFault.TheVariants.{InputTooLong, Read};
 ghost use Rattle.tpm_output.specs.declared.status.Status.TheVariants.{Done};
@@ -11,18 +10,17 @@ ghost use Rattle.tpm_output.specs.Faults.{FailsByMemoryOrWrite};
 ghost use Rattle.tpm_output.specs.InputLines.{CountsRead};
 ghost use Rattle.tpm_output.specs.Reads.{ReadsNoMore, ReadsUpTo};
 ghost use Rattle.tpm_events.specs.ListEvents.{events_from, most_read};
-ghost use Rattle.tpm_check.specs.CheckAttest.{ChecksAttest, IsFollowed, Says, ended};
-ghost use Rattle.tpm_check.specs.Compare.{Verdict, beside, printed};
+ghost use Rattle.tpm_check.specs.CheckAttest.{IsFollowed, Selects};
+ghost use Rattle.tpm_check.specs.Compare.{printed};
 ghost use Rattle.tpm_check.specs.Asked.{asked_by};
 ghost use Rattle.tpm_check.specs.VouchedEvents.{ListsBeside, ListsVouched};
 
 use crate::asked::{Asked, AskedQuote};
-use crate::behind::selected;
 use crate::beside::Beside;
 use crate::check_json::ended;
 use crate::checked::tell_fault;
 use crate::judged::answer_to_attest;
-use std::alloc::{AllocError, Global};
+use std::alloc::Global;
 use std::io::Write;
 use tpm_events::listed_events::MOST_READ;
 use tpm_events::{list_events, print_events};
@@ -32,45 +30,31 @@ use tpm_output::answer::Answer;
 use tpm_output::fault::ToolFault;
 use tpm_output::reads::read_up_to;
 use tpm_output::status::Status;
+use tpm_types::Selection;
 use tpm_wire::Source;
 
-// What is printed of a quote beside registers.
-fn answer_to_end(
-    alloc: Global,
-    found: &Beside<'_>,
-    quote: AskedQuote<'_, '_>,
-) -> Result<Answer, AllocError>
-    ensures { IfOk result (λ a. (said : Verdict)
-        × ChecksAttest (beside found.now.form (value_in found.now.registers.now.banks))
-        quote.entry.options.now quote.entry.attest.now said
-        × Says (ended found.now.form said) a.status (string_bytes a.text)) }
-{
-    ended(found.form, answer_to_attest(alloc, found, quote)?)
-}
-
-// Prints what is said of a quote, and behind one that is the one asked for the records of a log, with what it vouches
-// for in each.
+// Prints what is said of a quote with these selections, and behind one that is the one asked for the records of a log,
+// with what it vouches for in each.
 fn print_behind<W: Write>(
     alloc: Global,
     listing: Listing<'_>,
     said: &Answer,
-    attest: &[u8],
+    selections: &[Selection],
     log: &Log<'_>,
     out: &mut W,
 ) -> Result<Status, ToolFault>
     ensures ok { IfOk result (λ status. (text : List ℕ)
-        × IsFollowed attest.now
+        × ((attest : List ℕ) → Selects attest selections.now → IsFollowed attest
         (λ selections. printed Done
         (events_from listing.entry (Some selections) log.now.size 1 (map shown log.now.records)))
-        (printed said.now.status (string_bytes said.now.text)) (printed status text)
+        (printed said.now.status (string_bytes said.now.text)) (printed status text))
         × Appends (W.contents out.old) (W.contents out.new) text) }
     ensures err { FailsByMemoryOrWrite result }
 {
     match said.print(out)? {
         Status::Refused => Ok(Status::Refused),
         Status::Done => {
-            let selections = selected(attest);
-            print_events(alloc, listing, log, Some(selections.as_slice()), out)?;
+            print_events(alloc, listing, log, Some(selections), out)?;
             Ok(Status::Done)
         }
     }
@@ -96,8 +80,16 @@ fn print_vouched<W: Write>(
     match Log::replayed(bytes) {
         Ok((log, registers)) => {
             let registers = &registers;
-            let said = answer_to_end(alloc, &Beside { registers, form }, quote)?;
-            print_behind(alloc, listing, &said, quote.attest, &log, out)
+            let said = answer_to_attest(alloc, &Beside { registers, form }, quote)?;
+            let answer = ended(form, said.answer)?;
+            print_behind(
+                alloc,
+                listing,
+                &answer,
+                said.selections.as_slice(),
+                &log,
+                out,
+            )
         }
         Err(fault) => tell_fault(alloc, form, &fault, out),
     }

@@ -1,5 +1,4 @@
-use Rattle.std.proofs.Common.{◌++◌, List, Some, ℕ, map, string_bytes, subst, sym, ◌∙◌}
-use Rattle.std.specs.Io.KnownBytes.{Appends}
+use Rattle.std.proofs.Common.{◌++◌, List, Some, ℕ, map, string_bytes, sym, ◌∙◌}
 use Rattle.tpm_types.specs.declared.tpms.Selection.{Selection}
 use Rattle.tpm_log.specs.Events.{shown}
 use Rattle.tpm_output.proofs.Joins.{joins_appends}
@@ -15,10 +14,9 @@ returns-in_ok-print_events-in-Done-clause-ok g c =
     let before = string_bytes c.args.said.now.text in
     let first = c.in_ok-print.ensures.ok in
     let records : List Selection → List ℕ = λ selections. events_from c.args.listing (Some selections) log.size 1 (map shown log.records) in
-    let selections = c.selected-selections.result in
-    let behind = subst (λ (s : List Selection). Appends (contents c.print.new.out) (contents c.print_events.new.out) (records s))
-    c.as_slice.ensures.value c.in_ok-print_events-in-Done.ensures.ok in (
+    let selections = c.args.selections.now in (
       before ++ records selections,
-      followed c.args.attest.now records (printed c.args.said.now.status before) selections (sym first.0 ∙ c.in-Done.is) c.selected-selections.ensures,
-      joins_appends (contents c.args.out.now) (contents c.print.new.out) (contents c.print_events.new.out) before (records selections) first.1 behind,
+      (λ attest selects. followed attest records (printed c.args.said.now.status before) selections (sym first.0 ∙ c.in-Done.is) selects),
+      joins_appends (contents c.args.out.now) (contents c.print.new.out) (contents c.print_events.new.out) before (records selections) first.1
+          c.in_ok-print_events-in-Done.ensures.ok,
     )
